@@ -1,0 +1,4 @@
+pub mod Members
+pub mod Points
+pub mod Vectors
+pub mod Polygons

@@ -1,0 +1,1 @@
+// Plane geometry over the whole numbers: definitions (specs/) and theorems (proofs/), no code.

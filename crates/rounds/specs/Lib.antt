@@ -1,0 +1,5 @@
+pub mod Boxes
+pub mod Picks
+pub mod Words
+pub mod Reasons
+pub mod Refusals
