@@ -15,9 +15,9 @@ use Rattle.integers.proofs.Cert.{cert, hyp, eqn, num, less, _⊞_, _⊠_, _∵_
 use Rattle.integers.proofs.Order.{lt-or-ge, <→≤, ≤-antisym, add-nn}
 use Rattle.plane.specs.Points.{Point}
 use Rattle.plane.specs.Members.{All, none, _&_, _∈_, here, there}
-use Rattle.plane.specs.Vectors.{along, Supported, Balanced}
+use Rattle.plane.specs.Vectors.{along, Supported, Balanced, Separated}
 use Rattle.plane.proofs.Lists.{first, all-at, all-imp, all-both}
-use Rattle.plane.proofs.Combos.{Separated, balanced₂, balanced₃}
+use Rattle.plane.proofs.Combos.{balanced₂, balanced₃}
 use Rattle.plane.proofs.Twins.{pt, alongᴱ, det, detᴱ}
 use Rattle.plane.proofs.Winding.{length-pos}
 

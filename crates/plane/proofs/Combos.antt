@@ -15,7 +15,7 @@ use Rattle.integers.proofs.Cert.{cert, hyp, _⊞_, _⊠_, _∵_}
 use Rattle.integers.proofs.Order.{pos-nn}
 use Rattle.plane.specs.Points.{Point}
 use Rattle.plane.specs.Members.{All, none, _&_, _∈_, here, there}
-use Rattle.plane.specs.Vectors.{along, total, weighted, Balanced}
+use Rattle.plane.specs.Vectors.{Separated, along, total, weighted, Balanced}
 
 -- weights of the vectors vs that total t and make the sum (x, y)
 pub record Combo (vs : List Point) (x y t : ℤ) : Type 0 where
@@ -163,12 +163,6 @@ weighted-neg f (zero ∷ ws) e t (_&_ {x = v} h k) =
     lin 0 2 (λ x s. s ≺ # 0 ⟹ # 0 ⊗ x ⊕ s ≺ # 0) (omega arith) (f v) _ (weighted-neg f ws (omega arith) (omega arith) k)
 weighted-neg f (suc w ∷ ws) e t (h & k) =
     cert 0 3 (λ w x s. # 0 ≺ w ⟹ x ≺ # 0 ⟹ s ≼ # 0 ⟹ w ⊗ x ⊕ s ≺ # 0 ∵ hyp 0 ⊠ hyp 1 ⊞ hyp 2) tt (pos (suc w)) _ _ (record { lt = lt→ltb 0 (suc w) (omega arith) }) h (weighted-np f ws k)
-
--- a direction has every vector strictly behind it
-pub record Separated (vs : List Point) : Type 0 where
-  pub a : ℤ
-  pub b : ℤ
-  pub behind : All (λ v. along a b v <ℤ pos 0) vs
 
 pub separated-not-balanced : {vs : List Point} → Separated vs → Balanced vs → ⊥
 separated-not-balanced {vs} s h =

@@ -7,6 +7,7 @@
 --     Winding        a point strictly right of every side is strictly inside: no direction supports
 --     Fan            the triangle of the fan from the first vertex in which a point lies
 --     Alternative    every list of vectors is balanced or strictly separated by a direction
+--     Supporting     whether a direction supports a list of vectors is decided
 --     PolygonFacts   the closed listing with strict turns is the polygon; one vertex, and two
 --     Outline        what a hull's making promises, from which the polygon follows
 --     Reading        and back: the polygon's definition gives the outline
@@ -21,6 +22,7 @@ pub mod Sides
 pub mod Winding
 pub mod Fan
 pub mod Alternative
+pub mod Supporting
 pub mod PolygonFacts
 pub mod Outline
 pub mod Reading

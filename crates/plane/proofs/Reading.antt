@@ -13,11 +13,11 @@ use Rattle.integers.proofs.Cert.{cert, hyp, num, eqn, sq, _⊞_, _∵_, _∵_÷
 use Rattle.integers.proofs.Order.{lt-or-ge, <→≤, ≡→≤, ≤-antisym, ≤-trans, not-≤, compareℤ, Cmp, is-less, is-same, is-more}
 use Rattle.plane.specs.Points.{Point, signedArea}
 use Rattle.plane.specs.Members.{All, none, _&_, _∈_, here, there}
-use Rattle.plane.specs.Vectors.{from, along}
+use Rattle.plane.specs.Vectors.{from, along, Separated}
 use Rattle.plane.specs.Polygons.{AllRight, Extreme, Distinct, Steps, Clockwise, Polygon}
 use Rattle.plane.proofs.Twins.{signedAreaᴱ, pt, fromᴱ, alongᴱ}
 use Rattle.plane.proofs.Lists.{first, rest, all-at, all-of, all-imp, all-map}
-use Rattle.plane.proofs.Combos.{Separated, separated-not-balanced}
+use Rattle.plane.proofs.Combos.{separated-not-balanced}
 use Rattle.plane.proofs.Sides.{out-east, out-north, side-nonzero, point-ext, ahead, aheadᴱ}
 use Rattle.plane.proofs.Winding.{length-pos}
 use Rattle.plane.proofs.Alternative.{Rises, outgrow}

@@ -10,11 +10,11 @@ use Rattle.integers.proofs.Lin.{lin}
 use Rattle.integers.proofs.Cert.{cert, hyp, _⊞_, _∵_}
 use Rattle.plane.specs.Points.{Point, signedArea}
 use Rattle.plane.specs.Members.{All}
-use Rattle.plane.specs.Vectors.{from, along, Supported, Balanced}
+use Rattle.plane.specs.Vectors.{from, along, Supported, Balanced, Separated}
 use Rattle.plane.specs.Polygons.{AllRight}
 use Rattle.plane.proofs.Twins.{pt, fromᴱ, alongᴱ, signedAreaᴱ}
 use Rattle.plane.proofs.Lists.{all-imp, all-map}
-use Rattle.plane.proofs.Combos.{Separated, separated-not-balanced}
+use Rattle.plane.proofs.Combos.{separated-not-balanced}
 
 -- how far q is ahead of v on the way to w: (w − v) · (q − v)
 abbrev pub ahead : Point → Point → Point → ℤ

@@ -3,7 +3,7 @@ use Prim.Native.Nat.{ℕ, _+_, _<_}
 use mathlib.Core.Path.{_≡_}
 use mathlib.Core.List.{List, [], _∷_}
 use lib.IntN.{ℤ, pos, _+ℤ_, _-ℤ_, _*ℤ_}
-use lib.Signed.{_≤ℤ_}
+use lib.Signed.{_≤ℤ_, _<ℤ_}
 use lib.ListN.{length}
 use Rattle.plane.specs.Members.{All}
 use Rattle.plane.specs.Points.{Point}
@@ -41,3 +41,9 @@ pub record Balanced (vs : List Point) : Type 0 where
   pub some-weight : 0 < total weights
   pub east-sum : weighted (λ v. v .east) weights vs ≡ pos 0
   pub north-sum : weighted (λ v. v .north) weights vs ≡ pos 0
+
+-- strictly separated by a whole direction: every vector is strictly behind it, so that nothing balances
+pub record Separated (vs : List Point) : Type 0 where
+  pub a : ℤ
+  pub b : ℤ
+  pub behind : All (λ v. along a b v <ℤ pos 0) vs

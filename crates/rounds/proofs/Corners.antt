@@ -13,9 +13,9 @@ use Rattle.integers.proofs.Cert.{cert, hyp, _⊞_, _⊠_, _∵_, _∵_÷_}
 use Rattle.integers.proofs.Order.{pos-nn, _≤ᶻ_}
 use Rattle.plane.specs.Points.{Point}
 use Rattle.plane.specs.Members.{All, none, _&_}
-use Rattle.plane.specs.Vectors.{from, along, Supported}
+use Rattle.plane.specs.Vectors.{from, along, Supported, Separated}
 use Rattle.plane.proofs.Lists.{all-map, all-unmap, all-left, all-right}
-use Rattle.plane.proofs.Combos.{Separated, separated-not-balanced}
+use Rattle.plane.proofs.Combos.{separated-not-balanced}
 use Rattle.plane.proofs.Twins.{pt, fromᴱ, alongᴱ}
 use Rattle.rounds.specs.Boxes.{Box, Ordered, cornerOf, cornersOf, allCorners}
 use Rattle.rounds.specs.Picks.{Within, Each, Pick}

@@ -3,3 +3,4 @@ pub mod Picks
 pub mod Words
 pub mod Reasons
 pub mod Refusals
+pub mod Replies

@@ -1,9 +1,14 @@
 -- The two drivers, and what each verdict word says of every pick: the mission's third demand. Definitions only.
+use mathlib.Core.Logic.{_⊎_, inl, inr}
 use mathlib.Core.List.{List, map}
 use Rattle.plane.specs.Points.{Point}
 use Rattle.plane.specs.Vectors.{from, Supported, Balanced}
-use Rattle.rounds.specs.Boxes.{Box}
+use Rattle.plane.proofs.Alternative.{alternative}
+use Rattle.plane.proofs.Supporting.{supported-dec}
+use Rattle.rounds.specs.Boxes.{Box, cornersOf, allCorners}
 use Rattle.rounds.specs.Picks.{Pick}
+use Rattle.rounds.specs.declared.Corner.{Corner}
+use Rattle.rounds.specs.declared.Corner.the-variants.{SouthWest, SouthEast, NorthEast, NorthWest}
 
 -- the pick succeeds for the first driver: the plug is not strictly inside its hull
 abbrev pub FirstSucceeds : {bs : List Box} → Point → Pick bs → Type 0
@@ -24,3 +29,21 @@ abbrev pub Means : List Box → Point → Word → Type 0
 Means bs p inside = (k : Pick bs) → FirstSucceeds p k → ⊥
 Means bs p outside = (k : Pick bs) → SecondSucceeds p k → ⊥
 Means bs p undecided = ((k : Pick bs) × FirstSucceeds p k) × ((k : Pick bs) × SecondSucceeds p k)
+
+-- outside where all corners together do not balance; inside where no corner list is supported
+abbrev pub wordBy : {B S W E N X : Type 0} → B ⊎ S → Dec W → Dec E → Dec N → Dec X → Word
+wordBy (inr s) w e n x = outside
+wordBy (inl b) (yes h) e n x = undecided
+wordBy (inl b) (no w) (yes h) n x = undecided
+wordBy (inl b) (no w) (no e) (yes h) x = undecided
+wordBy (inl b) (no w) (no e) (no n) (yes h) = undecided
+wordBy (inl b) (no w) (no e) (no n) (no x) = inside
+
+-- the word of a plug, by document 004's finite formulas with corners. For ordered boxes it is the only word that `Means` holds of (proofs/Total: `exactly`)
+unfoldable pub wordOf : List Box → Point → Word
+wordOf bs p =
+    wordBy (alternative (map (from 1 p) (allCorners bs)))
+    (at SouthWest) (at SouthEast) (at NorthEast) (at NorthWest)
+  where
+    at : (c : Corner) → Dec (Supported (map (from 1 p) (cornersOf c bs)))
+    at c = supported-dec (map (from 1 p) (cornersOf c bs))

@@ -1,0 +1,16 @@
+-- Laws of hulls, in the order of use, each file over those above it. Other crates may cite Outlines for the points of a list of keys by index; what a polygon
+-- tells is read by plane (Reading, Indexed).
+--     Turning    turns at keys in order; a key in line with two others, and between them in order, lies between them
+--     Chaining   how one more key changes an upper chain
+--     Fan        the vertices of a chain, seen from its first
+--     Mirroring  keys reflected through the middle of the plane
+--     Listing    the two chains make a closed listing, by index
+--     Outlines   a closed listing is an outline of the keys' points; the same members have the same polygon
+--     Made       the polygon of a list of keys, from what the calls promise
+pub mod Turning
+pub mod Chaining
+pub mod Fan
+pub mod Mirroring
+pub mod Listing
+pub mod Outlines
+pub mod Made

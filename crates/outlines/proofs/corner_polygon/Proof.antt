@@ -1,0 +1,64 @@
+-- `outlines::corner_polygon` meets its contract: scratch for 64 boxes is enough for few, and for 1,024 for all. Assumes nothing.
+use Prim.Native.Nat.{_/_, _≤_}
+use borrow.Author.Needs.{needs}
+use lib.ListN.{length}
+use Rattle.rounds.proofs.Accepted.{accepted}
+use Rattle.outlines.proofs.corner_polygon.Statement.{statement}
+use Rattle.outlines.proofs.corner_polygon.Tie as tie
+
+slice-aggregate-corner-polygon-in : tie.Need-slice-aggregate-corner-polygon-in
+slice-aggregate-corner-polygon-in c = search needs
+
+slice-aggregate-corner-polygon-in-2 : tie.Need-slice-aggregate-corner-polygon-in-2
+slice-aggregate-corner-polygon-in-2 c = search needs
+
+slice-aggregate-corner-polygon-in-3 : tie.Need-slice-aggregate-corner-polygon-in-3
+slice-aggregate-corner-polygon-in-3 c = search needs
+
+corner-polygon-in-requires : tie.Need-corner-polygon-in-requires
+corner-polygon-in-requires c κs = search needs
+
+same-length : tie.Need-same-length
+same-length c = search needs
+
+returns : tie.Need-returns
+returns c = search needs
+
+slice-aggregate-corner-polygon-in-4 : tie.Need-slice-aggregate-corner-polygon-in-4
+slice-aggregate-corner-polygon-in-4 c = search needs
+
+slice-aggregate-corner-polygon-in-5 : tie.Need-slice-aggregate-corner-polygon-in-5
+slice-aggregate-corner-polygon-in-5 c = search needs
+
+slice-aggregate-corner-polygon-in-6 : tie.Need-slice-aggregate-corner-polygon-in-6
+slice-aggregate-corner-polygon-in-6 c = search needs
+
+corner-polygon-in-requires-2 : tie.Need-corner-polygon-in-requires-2
+corner-polygon-in-requires-2 c κs =
+    let s = c .before .before .before .before .before .before in
+    let a = accepted (s .args .boxes .now) (s .pre .0) in
+    let few : length (s .args .boxes .now) / 4 ≤ 1024 = a .few in
+    (s .pre .0, record { in-vertices = s .pre .1; in-keys = few; in-mirror = few; in-lower = few })
+
+same-length-2 : tie.Need-same-length-2
+same-length-2 c = search needs
+
+returns-2 : tie.Need-returns-2
+returns-2 c = search needs
+
+pub corner-polygon-spec : {M : Type 1} → statement M
+corner-polygon-spec =
+    tie.close
+    (tie.spec
+    slice-aggregate-corner-polygon-in
+    slice-aggregate-corner-polygon-in-2
+    slice-aggregate-corner-polygon-in-3
+    corner-polygon-in-requires
+    same-length
+    returns
+    slice-aggregate-corner-polygon-in-4
+    slice-aggregate-corner-polygon-in-5
+    slice-aggregate-corner-polygon-in-6
+    corner-polygon-in-requires-2
+    same-length-2
+    returns-2)

@@ -1,0 +1,299 @@
+// The verdict on a plug, with its reasons.
+ghost use mathlib.Core.List.{[], _∷_};
+ghost use mathlib.Core.Path.{_≡_};
+ghost use Prim.Native.Nat.{_/_};
+ghost use lib.ListN.{length};
+ghost use Rattle.plane.specs.Members.{All, _∈_};
+ghost use Rattle.plane.specs.Points.{point};
+ghost use Rattle.turns.specs.Keys.{Key, pointOf};
+ghost use Rattle.rounds.specs.Boxes.{box, boxesOf, allCorners};
+ghost use Rattle.rounds.specs.Refusals.{none, faultOf, boxListFault, verdictFault};
+ghost use Rattle.locations.specs.Answers.{Member};
+ghost use Rattle.verdicts.specs.Entries.{SamePoint, FoundIn, EntryFor, ReasonsFor};
+ghost use Rattle.verdicts.specs.Places.{FiveKeys, PlaceOf, FiveRoom, PlaceSays};
+ghost use Rattle.verdicts.specs.Verdicts.{VerdictIs, wordReply, verdictOn};
+use locations::Balance;
+use locations::Support;
+use locations::Weighted;
+use rounds::Checked;
+use rounds::Corner;
+use rounds::Refusal;
+
+// An entry of the second driver's reason: a box number from 1, a corner's name and a weight.
+pub struct Entry {
+    pub number: usize,
+    pub corner: Corner,
+    pub weight: u32,
+}
+
+// The first driver's reason: that corner of every box is the pick, and no picked point is ahead of the plug in the direction.
+pub struct Direction {
+    pub corner: Corner,
+    pub east: i32,
+    pub north: i32,
+}
+
+// What an undecided verdict carries: a direction for the first driver, three entries for the second.
+pub struct Reasons {
+    pub direction: Direction,
+    pub first: Entry,
+    pub second: Entry,
+    pub third: Entry,
+}
+
+// The verdict on a plug.
+pub enum Verdict {
+    Inside,
+    Outside,
+    Undecided(Reasons),
+    Refused(Refusal),
+}
+
+// The verdict's word alone.
+pub enum PlugWord {
+    Inside,
+    Outside,
+    Undecided,
+    Refused(Refusal),
+}
+
+// Where a plug lies with respect to the polygons of some boxes: within all four corner polygons, off the outer polygon, or between, by a
+// direction and three weighted vertices of the outer polygon.
+pub enum Place {
+    Within,
+    Off,
+    Between(Direction, Weighted, Weighted, Weighted),
+}
+
+// Which corner of a box a point is.
+pub enum Found {
+    At(Corner),
+    Nowhere,
+}
+
+// Whether two points are the same.
+fn is_same(ae: i32, an: i32, be: i32, bn: i32) -> bool
+    ensures { λ r. ⌜ SamePoint (point ae an) (point be bn) r ⌝ }
+{
+    if ae != be {
+        return false;
+    }
+    an == bn
+}
+
+// Which corner of a box a point is, if any.
+fn corner_at(west: i32, south: i32, east: i32, north: i32, e: i32, n: i32) -> Found
+    ensures { λ r. ⌜ FoundIn (box west south east north) (point e n) r ⌝ }
+{
+    if is_same(west, south, e, n) {
+        return Found::At(Corner::SouthWest);
+    }
+    if is_same(east, south, e, n) {
+        return Found::At(Corner::SouthEast);
+    }
+    if is_same(east, north, e, n) {
+        return Found::At(Corner::NorthEast);
+    }
+    if is_same(west, north, e, n) {
+        return Found::At(Corner::NorthWest);
+    }
+    Found::Nowhere
+}
+
+// The entry that names a vertex, which is a corner of some box of the list.
+fn entry_of(boxes: &[i32], vertex: u32, weight: u32) -> Entry
+    requires { ⌜ Key vertex × (pointOf vertex ∈ allCorners (boxesOf (now boxes))) ⌝ }
+    ensures { λ r. ⌜ EntryFor (boxesOf (now (boxes .entry))) (pointOf vertex) weight r ⌝ }
+{
+    let e = turns::east_of(vertex);
+    let n = turns::north_of(vertex);
+    let count = boxes.len() / 4;
+    let mut k: usize = 0;
+    while k < count {
+        let at = k * 4;
+        let found = corner_at(boxes[at], boxes[at + 1], boxes[at + 2], boxes[at + 3], e, n);
+        if let Found::At(corner) = found {
+            return Entry {
+                number: k + 1,
+                corner,
+                weight,
+            };
+        }
+        k += 1;
+    }
+    Entry {
+        number: count,
+        corner: Corner::SouthWest,
+        weight,
+    }
+}
+
+// Where a plug lies with respect to the outer polygon and the four corner polygons of some boxes.
+pub fn locate(outer: &[u32], sw: &[u32], se: &[u32], ne: &[u32], nw: &[u32], plug: u32) -> Place
+    requires { ⌜ FiveKeys (now outer) (now sw) (now se) (now ne) (now nw) plug ⌝ }
+    ensures { λ r. ⌜ PlaceOf (now (outer .entry)) (now (sw .entry)) (now (se .entry)) (now (ne .entry)) (now (nw .entry)) plug r ⌝ }
+{
+    let balance = locations::balance_of(outer, plug);
+    let Balance::Triangle(a, b, c) = balance else {
+        return Place::Off;
+    };
+    let by_sw = locations::support_of(sw, plug);
+    if let Support::Direction(east, north) = by_sw {
+        return Place::Between(
+            Direction {
+                corner: Corner::SouthWest,
+                east,
+                north,
+            },
+            a,
+            b,
+            c,
+        );
+    }
+    let by_se = locations::support_of(se, plug);
+    if let Support::Direction(east, north) = by_se {
+        return Place::Between(
+            Direction {
+                corner: Corner::SouthEast,
+                east,
+                north,
+            },
+            a,
+            b,
+            c,
+        );
+    }
+    let by_ne = locations::support_of(ne, plug);
+    if let Support::Direction(east, north) = by_ne {
+        return Place::Between(
+            Direction {
+                corner: Corner::NorthEast,
+                east,
+                north,
+            },
+            a,
+            b,
+            c,
+        );
+    }
+    let by_nw = locations::support_of(nw, plug);
+    if let Support::Direction(east, north) = by_nw {
+        return Place::Between(
+            Direction {
+                corner: Corner::NorthWest,
+                east,
+                north,
+            },
+            a,
+            b,
+            c,
+        );
+    }
+    Place::Within
+}
+
+// The reasons that carry the direction, and an entry for each of three vertices, which are corners of boxes of the list.
+fn reasons_of(boxes: &[i32], direction: Direction, a: Weighted, b: Weighted, c: Weighted) -> Reasons
+    requires { ⌜ All (Member (allCorners (boxesOf (now boxes)))) (a ∷ b ∷ c ∷ []) ⌝ }
+    ensures { λ r. ⌜ ReasonsFor (boxesOf (now (boxes .entry))) direction a b c r ⌝ }
+{
+    let first = entry_of(boxes, a.vertex, a.weight);
+    let second = entry_of(boxes, b.vertex, b.weight);
+    let third = entry_of(boxes, c.vertex, c.weight);
+    Reasons {
+        direction,
+        first,
+        second,
+        third,
+    }
+}
+
+// Where a plug lies with respect to the polygons of accepted boxes, in lent room for their vertices. What the room holds is lost.
+fn place_in(
+    boxes: &[i32],
+    plug: u32,
+    outer: &mut [u32],
+    sw: &mut [u32],
+    se: &mut [u32],
+    ne: &mut [u32],
+    nw: &mut [u32],
+) -> Place
+    requires { ⌜ (boxListFault (now boxes) ≡ none) × Key plug ⌝ }
+    requires { ⌜ FiveRoom (length (now boxes) / 4) (now outer) (now sw) (now se) (now ne) (now nw) ⌝ }
+    ensures { λ r. ⌜ PlaceSays (boxesOf (now (boxes .entry))) (pointOf plug) r ⌝ }
+{
+    let o = outlines::outer_polygon(boxes, outer);
+    let a = outlines::corner_polygon(boxes, Corner::SouthWest, sw);
+    let b = outlines::corner_polygon(boxes, Corner::SouthEast, se);
+    let c = outlines::corner_polygon(boxes, Corner::NorthEast, ne);
+    let d = outlines::corner_polygon(boxes, Corner::NorthWest, nw);
+    locate(&outer[..o], &sw[..a], &se[..b], &ne[..c], &nw[..d], plug)
+}
+
+// Where a plug lies with respect to the polygons of accepted boxes: small room for few of them.
+fn place_of(boxes: &[i32], plug: u32) -> Place
+    requires { ⌜ (boxListFault (now boxes) ≡ none) × Key plug ⌝ }
+    ensures { λ r. ⌜ PlaceSays (boxesOf (now (boxes .entry))) (pointOf plug) r ⌝ }
+{
+    if boxes.len() <= 256 {
+        let mut outer = [0u32; 256];
+        let mut sw = [0u32; 64];
+        let mut se = [0u32; 64];
+        let mut ne = [0u32; 64];
+        let mut nw = [0u32; 64];
+        return place_in(boxes, plug, &mut outer, &mut sw, &mut se, &mut ne, &mut nw);
+    }
+    let mut outer = [0u32; 4096];
+    let mut sw = [0u32; 1024];
+    let mut se = [0u32; 1024];
+    let mut ne = [0u32; 1024];
+    let mut nw = [0u32; 1024];
+    place_in(boxes, plug, &mut outer, &mut sw, &mut se, &mut ne, &mut nw)
+}
+
+// The boxes, then the plug with place 1.
+fn check(boxes: &[i32], east: i32, north: i32) -> Checked
+    ensures { λ r. ⌜ faultOf r ≡ verdictFault (now (boxes .entry)) (point east north) ⌝ }
+{
+    let checked = rounds::check_boxes(boxes);
+    if let Checked::Refused(refusal) = checked {
+        return Checked::Refused(refusal);
+    }
+    rounds::check_plug(east, north, 1)
+}
+
+// The verdict on the plug at an east and a north, with its reasons where it is undecided.
+pub fn verdict_on(boxes: &[i32], east: i32, north: i32) -> Verdict
+    ensures { λ r. ⌜ VerdictIs (now (boxes .entry)) (point east north) r ⌝ }
+{
+    let checked = check(boxes, east, north);
+    if let Checked::Refused(refusal) = checked {
+        return Verdict::Refused(refusal);
+    }
+    let plug = turns::key_of(east, north);
+    let place = place_of(boxes, plug);
+    match place {
+        Place::Within => Verdict::Inside,
+        Place::Off => Verdict::Outside,
+        Place::Between(direction, a, b, c) => {
+            Verdict::Undecided(reasons_of(boxes, direction, a, b, c))
+        }
+    }
+}
+
+// The verdict's word alone.
+pub fn word_on(boxes: &[i32], east: i32, north: i32) -> PlugWord
+    ensures { λ r. ⌜ wordReply r ≡ verdictOn (now (boxes .entry)) (point east north) ⌝ }
+{
+    let checked = check(boxes, east, north);
+    if let Checked::Refused(refusal) = checked {
+        return PlugWord::Refused(refusal);
+    }
+    let plug = turns::key_of(east, north);
+    let place = place_of(boxes, plug);
+    match place {
+        Place::Within => PlugWord::Inside,
+        Place::Off => PlugWord::Outside,
+        Place::Between(_, _, _, _) => PlugWord::Undecided,
+    }
+}
