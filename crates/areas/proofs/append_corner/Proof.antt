@@ -1,0 +1,40 @@
+-- `areas::append_corner` meets its contract: what is written over the part that is lent on is written over the whole. Assumes nothing.
+use borrow.Author.Needs.{needs}
+use Rattle.areas.proofs.Listing.{written-behind}
+use Rattle.areas.proofs.append_corner.Statement.{statement}
+use Rattle.areas.proofs.append_corner.Tie as tie
+
+mul-write-corner : tie.Need-mul-write-corner
+mul-write-corner c = search needs
+
+sub-write-corner : tie.Need-sub-write-corner
+sub-write-corner c = search needs
+
+part-write-corner-start : tie.Need-part-write-corner-start
+part-write-corner-start c = search needs
+
+part-write-corner-end : tie.Need-part-write-corner-end
+part-write-corner-end c = search needs
+
+write-corner-requires : tie.Need-write-corner-requires
+write-corner-requires c κs = search needs
+
+same-length : tie.Need-same-length
+same-length c = search needs
+
+returns : tie.Need-returns
+returns c =
+    let s = c .before .before .before in
+    written-behind _ (s .args .from) (s .args .answer .now) (c .before .write-corner .last .1 .1 .0) (c .before .write-corner .result) (c .before .write-corner .ensures)
+
+pub append-corner-spec : {M : Type 1} → statement M
+append-corner-spec =
+    tie.close
+    (tie.spec
+    mul-write-corner
+    sub-write-corner
+    part-write-corner-start
+    part-write-corner-end
+    write-corner-requires
+    same-length
+    returns)

@@ -1,0 +1,4 @@
+pub mod Format
+pub mod Content
+pub mod Promises
+pub mod Steps

@@ -1,0 +1,84 @@
+-- What the reader and the writer promise: the reply, and every number or byte of each lent buffer at exit, refusals too. Definitions only.
+use Prim.Native.Nat.{ℕ, _+_, _*_, _/_}
+use mathlib.Core.Path.{_≡_}
+use mathlib.Core.List.{List, [], _∷_, _++_, flatMap}
+use lib.IntN.{ℤ}
+use lib.ListN.{length, drop}
+use Rattle.plane.specs.Points.{Point}
+use Rattle.rounds.specs.Boxes.{Box, boxesOf, plugsOf}
+use Rattle.rounds.specs.Refusals.{Fault, none, fault, readFault, writeFault}
+use Rattle.files.specs.Format.{fileOf}
+use Rattle.files.specs.Content.{Content, contentOf}
+use Rattle.files.specs.declared.Counts.{Counts}
+use Rattle.files.specs.declared.Reading.{Reading}
+use Rattle.files.specs.declared.Reading.the-variants as Reading′
+use Rattle.files.specs.declared.Writing.{Writing}
+use Rattle.files.specs.declared.Writing.the-variants as Writing′
+
+-- ---- replies and buffers
+
+-- what a call returns: a result, or the number of a cause in document 01's table and its place, and no other result
+pub data Reply (A : Type 0) : Type 0 where
+  result : A → Reply A
+  refused : ℕ → ℕ → Reply A
+
+-- the paper's number and values for each case of the reader's answer
+abbrev pub readingReply : Reading → Reply Counts
+readingReply (Reading′.Read counts) = result counts
+readingReply (Reading′.Refused r) = refused (r .number) (r .place)
+
+-- the paper's number and values for each case of the writer's answer
+abbrev pub writingReply : Writing → Reply ℕ
+writingReply (Writing′.Written bytes) = result bytes
+writingReply (Writing′.Refused r) = refused (r .number) (r .place)
+
+-- the reply under a fault, and under none
+abbrev pub replyUnder : {A : Type 0} → Fault → A → Reply A
+replyUnder none a = result a
+replyUnder (fault number place) a = refused number place
+
+-- a lent buffer at exit: what is new, then the remainder as it was; under a fault all as it was
+abbrev pub bufferUnder : {A : Type 0} → Fault → List A → List A → List A
+bufferUnder none new entry = new ++ drop (length new) entry
+bufferUnder (fault number place) new entry = entry
+
+-- ---- the reader
+
+-- a box as four numbers of a buffer
+abbrev pub edges : Box → List ℤ
+edges b = b .west ∷ b .south ∷ b .east ∷ b .north ∷ []
+
+-- a plug as two numbers of a buffer, east then north
+abbrev pub coordinates : Point → List ℤ
+coordinates p = p .east ∷ p .north ∷ []
+
+-- both counts
+abbrev pub countsOf : Content → Counts
+countsOf held = record { boxes = length (held .boxes); plugs = length (held .plugs) }
+
+-- what the reader is turned back by: the fault of form, then 7 for boxes, then 7 for plugs
+unfoldable pub readerFault : List ℕ → List ℤ → List ℤ → Fault
+readerFault file boxes plugs =
+    let held = contentOf file in
+    readFault (held .fault) (length (held .boxes)) (length (held .plugs)) (length boxes) (length plugs)
+
+-- a file was read into two lent buffers
+pub record RoundRead (file : List ℕ) (boxesEntry plugsEntry : List ℤ) (reading : Reading) (boxesExit plugsExit : List ℤ) : Type 0 where
+  pub reply : readingReply reading ≡ replyUnder (readerFault file boxesEntry plugsEntry) (countsOf (contentOf file))
+  pub boxes : boxesExit ≡ bufferUnder (readerFault file boxesEntry plugsEntry) (flatMap edges (contentOf file .boxes)) boxesEntry
+  pub plugs : plugsExit ≡ bufferUnder (readerFault file boxesEntry plugsEntry) (flatMap coordinates (contentOf file .plugs)) plugsEntry
+
+-- ---- the writer
+
+-- the byte count: 18 for each box, 10 for each plug, 2 for the end
+unfoldable pub byteCount : List ℤ → List ℤ → ℕ
+byteCount boxes plugs = 18 * (length boxes / 4) + 10 * (length plugs / 2) + 2
+
+-- what the writer is turned back by: the boxes, the plug list by 1 and 6, then 7
+unfoldable pub writerFault : List ℤ → List ℤ → List ℕ → Fault
+writerFault boxes plugs file = writeFault boxes plugs (byteCount boxes plugs) (length file)
+
+-- boxes and plugs were written to a lent buffer of bytes
+pub record RoundWritten (boxes plugs : List ℤ) (fileEntry : List ℕ) (writing : Writing) (fileExit : List ℕ) : Type 0 where
+  pub reply : writingReply writing ≡ replyUnder (writerFault boxes plugs fileEntry) (byteCount boxes plugs)
+  pub file : fileExit ≡ bufferUnder (writerFault boxes plugs fileEntry) (fileOf (boxesOf boxes) (plugsOf plugs)) fileEntry
