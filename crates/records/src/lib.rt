@@ -1,0 +1,81 @@
+// The verdict on a plug, for boxes lent as a list of records with four named edges. The records' edges are copied into one flat list, and the
+// verdict is that of the flat list. A list of too many records is turned back with none of them copied.
+ghost use mathlib.Core.Path.{_≡_};
+ghost use mathlib.Core.List.{[], _∷_};
+ghost use Prim.Native.Nat.{_*_, _<_};
+ghost use lib.Seq.{sets};
+ghost use Rattle.plane.specs.Points.{point};
+ghost use Rattle.verdicts.specs.Verdicts.{VerdictIs};
+ghost use Rattle.records.specs.Records.{edgesOf, CopyCount, Holds, JudgedOn};
+use rounds::Refusal;
+use verdicts::Verdict;
+
+// A box as a record: four named edges, in whole metres.
+#[repr(C)]
+pub struct BoxEdges {
+    pub west: i32,
+    pub south: i32,
+    pub east: i32,
+    pub north: i32,
+}
+
+// How many of so many records are copied: all of them, or none of a list that is too long.
+fn copied_count(count: usize) -> usize
+    ensures { λ r. ⌜ CopyCount count r ⌝ }
+{
+    if count <= 1024 {
+        return count;
+    }
+    0
+}
+
+// Copies the four edges of the record at place `i`, from 0.
+fn put_box(flat: &mut [i32; 4096], i: usize, b: BoxEdges)
+    requires { ⌜ i < 1024 ⌝ }
+    ensures { λ _. ⌜ now (flat .exit) ≡ sets (now (flat .entry)) (i * 4) (edgesOf (b ∷ [])) ⌝ }
+{
+    let at = i * 4;
+    let west = b.west;
+    let south = b.south;
+    let east = b.east;
+    let north = b.north;
+    flat[at] = west;
+    flat[at + 1] = south;
+    flat[at + 2] = east;
+    flat[at + 3] = north;
+}
+
+// The flat list of the records' edges, at the front of an array, where the array has room for it.
+fn flattened(boxes: &[BoxEdges]) -> [i32; 4096]
+    ensures { λ r. ⌜ Holds (edgesOf (now (boxes .entry))) r ⌝ }
+{
+    let mut flat = [0i32; 4096];
+    let count = copied_count(boxes.len());
+    let mut i = 0;
+    while i < count {
+        put_box(&mut flat, i, boxes[i]);
+        i += 1;
+    }
+    flat
+}
+
+// The verdict on the flat list of so many boxes at the front of an array; the array has no room for more than 1,024, which are turned back by 3.
+fn judge(flat: [i32; 4096], count: usize, east: i32, north: i32) -> Verdict
+    ensures { λ r. ⌜ JudgedOn flat count (point east north) r ⌝ }
+{
+    if 1024 < count {
+        return Verdict::Refused(Refusal {
+            number: 3,
+            place: count,
+        });
+    }
+    let end = count * 4;
+    verdicts::verdict_on(&flat[..end], east, north)
+}
+
+// The verdict on the plug at an east and a north: that of the flat list of the records' edges.
+pub fn verdict_on(boxes: &[BoxEdges], east: i32, north: i32) -> Verdict
+    ensures { λ r. ⌜ VerdictIs (edgesOf (now (boxes .entry))) (point east north) r ⌝ }
+{
+    judge(flattened(boxes), boxes.len(), east, north)
+}
