@@ -1,0 +1,5 @@
+pub mod Faults
+pub mod Answering
+pub mod Areas
+pub mod Verdicts
+pub mod Files

@@ -1,0 +1,20 @@
+use mathlib.Core.Path.{sym, ap}
+use Rattle.c_api.specs.Areas.{outerStruct}
+use borrow.Author.Needs.{needs}
+use Rattle.c_api.proofs.outer_struct.Statement.{statement}
+use Rattle.c_api.proofs.outer_struct.Tie as tie
+
+enum-known-reply : tie.Need-enum-known-reply
+enum-known-reply c = search needs
+
+enum-known-reply-2 : tie.Need-enum-known-reply-2
+enum-known-reply-2 c = search needs
+
+returns : tie.Need-returns
+returns c = sym (ap outerStruct (c .before .reply .given .1))
+
+returns-2 : tie.Need-returns-2
+returns-2 c = sym (ap outerStruct (c .before .reply2 .given .1))
+
+pub outer-struct-spec : {M : Type 1} → statement M
+outer-struct-spec = tie.close (tie.spec enum-known-reply enum-known-reply-2 returns returns-2)

@@ -1,0 +1,4 @@
+pub mod Answers
+pub mod Areas
+pub mod Verdicts
+pub mod Files

@@ -1,0 +1,124 @@
+-- `printing::write_lines` meets its contract. The invariant: the first k lines are written (proofs/Lines.antt). Assumes nothing.
+use mathlib.Core.Path.{subst}
+use Prim.Native.Nat.{_+_, _-_, _*_, _/_, _≤_}
+use native.Mathlib.Omega.{arith}
+use borrow.Author.Needs.{needs}
+use lib.ListN.{length}
+use Rattle.plane.specs.Points.{Point}
+use Rattle.rounds.proofs.Rows.{plugAt}
+use Rattle.printing.specs.Steps.{WordBy}
+use Rattle.printing.proofs.Writing.{wrote-as}
+use Rattle.printing.proofs.Lines.{Sofar, sofar-none, sofar-length, sofar-room, sofar-part, sofar-more, sofar-all}
+use Rattle.printing.proofs.write_lines.Statement.{statement}
+use Rattle.printing.proofs.write_lines.Tie as tie
+
+abbrev Inv-loop : tie.InvT-loop
+Inv-loop outer sw se ne nw plugs out₀ count done₀ k₀ out done k = Sofar outer sw se ne nw plugs out₀ k done out
+
+abbrev μ-loop : tie.MeasureT-loop
+μ-loop outer sw se ne nw plugs out₀ count done₀ k₀ out done k = length plugs / 2 - k
+
+-- there is room for one line more
+room : (d : tie.In-loop Inv-loop μ-loop) → d .before .loop .done + 15 ≤ length (d .before .loop .out)
+room d = sofar-room _ _ _ _ _ _ _ (d .before .before .before .before .before .before .before .before .pre .1) (d .before .loop .inv) (d .loop-test .taken)
+
+-- what the callee says of the plug
+abbrev Word : (c : tie.After-word-by Inv-loop μ-loop) → Point → Type 0
+Word c p = let a = c .before .before .before .before .before .before .before .before .before .before .before .args in WordBy (a .outer .now) (a .sw .now) (a .se .now) (a .ne .now) (a .nw .now) p (c .word-by .result)
+
+is-word : (c : tie.After-word-by Inv-loop μ-loop) → Word c (plugAt (c .before .before .before .before .before .before .before .before .before .before .before .args .plugs .now) (c .before .before .before .before .loop .k * 2))
+is-word c = subst (Word c) (search needs) (c .word-by .ensures)
+
+loop-holds : tie.Need-loop-holds Inv-loop μ-loop
+loop-holds c = let s = c .before .before .before .before .before .before in sofar-none _ _ _ _ _ _ _ (s .pre .1)
+
+mul-at : tie.Need-mul-at Inv-loop μ-loop
+mul-at c = omega arith
+
+mul-word-by : tie.Need-mul-word-by Inv-loop μ-loop
+mul-word-by c = omega arith
+
+shared-slice-copy-out-word-by : tie.Need-shared-slice-copy-out-word-by Inv-loop μ-loop
+shared-slice-copy-out-word-by c = omega arith
+
+add-word-by : tie.Need-add-word-by Inv-loop μ-loop
+add-word-by c = omega arith
+
+mul-word-by-2 : tie.Need-mul-word-by-2 Inv-loop μ-loop
+mul-word-by-2 c = omega arith
+
+shared-slice-copy-out-word-by-2 : tie.Need-shared-slice-copy-out-word-by-2 Inv-loop μ-loop
+shared-slice-copy-out-word-by-2 c = omega arith
+
+word-by-requires : tie.Need-word-by-requires Inv-loop μ-loop
+word-by-requires c κs = c .before .before .before .before .before .before .before .before .before .before .pre .0
+
+add-write-plug-line : tie.Need-add-write-plug-line Inv-loop μ-loop
+add-write-plug-line c = omega arith
+
+sub-write-plug-line : tie.Need-sub-write-plug-line Inv-loop μ-loop
+sub-write-plug-line c = omega (arith, room (c .before .before .before))
+
+part-write-plug-line-start : tie.Need-part-write-plug-line-start Inv-loop μ-loop
+part-write-plug-line-start c = omega (arith, room (c .before .before .before))
+
+part-write-plug-line-end : tie.Need-part-write-plug-line-end Inv-loop μ-loop
+part-write-plug-line-end c = search needs
+
+write-plug-line-requires : tie.Need-write-plug-line-requires Inv-loop μ-loop
+write-plug-line-requires c κs =
+    let d = c .before .before .before .before in
+    sofar-part _ _ _ _ _ _ _ (d .before .before .before .before .before .before .before .before .pre .1) (d .before .loop .inv) (d .loop-test .taken)
+
+loop-again : tie.Need-loop-again Inv-loop μ-loop
+loop-again c =
+    let d = c .before .before .before .before .before .before .before in
+    let w = c .before .before .write-plug-line in
+    sofar-more _ _ _ _ _ _ _ (d .before .before .before .before .before .before .before .before .pre .1) (d .before .loop .inv) (d .loop-test .taken) (is-word (c .before .before .before .before)) (w .ensures)
+
+add-done : tie.Need-add-done Inv-loop μ-loop
+add-done c =
+    let s = c .before .before .before .before .before .before .before .before .before .before .before .before .before .before .before in
+    omega (arith, loop-again c .few, loop-again c .within, s .pre .1 .numbers)
+
+add-k : tie.Need-add-k Inv-loop μ-loop
+add-k c = omega arith
+
+loop-less : tie.Need-loop-less Inv-loop μ-loop
+loop-less c = omega arith
+
+same-length : tie.Need-same-length Inv-loop μ-loop
+same-length c =
+    let s = c .before .before .before .before .before .before .before .before in
+    sofar-length _ _ _ _ _ _ _ (s .pre .1) (c .before .loop .inv)
+
+returns : tie.Need-returns Inv-loop μ-loop
+returns c =
+    let s = c .before .before .before .before .before .before .before .before in
+    record { says = λ bs os f. wrote-as (sofar-all _ _ _ _ _ _ _ (s .pre .1) (c .before .loop .inv) (c .loop-test .left) bs os f) (c .before .loop .inv .wrote) }
+
+pub write-lines-spec : {M : Type 1} → statement M
+write-lines-spec =
+    tie.close
+    (tie.spec
+    Inv-loop
+    μ-loop
+    loop-holds
+    mul-at
+    mul-word-by
+    shared-slice-copy-out-word-by
+    add-word-by
+    mul-word-by-2
+    shared-slice-copy-out-word-by-2
+    word-by-requires
+    add-write-plug-line
+    sub-write-plug-line
+    part-write-plug-line-start
+    part-write-plug-line-end
+    write-plug-line-requires
+    add-done
+    add-k
+    loop-less
+    loop-again
+    same-length
+    returns)
