@@ -5,7 +5,8 @@ use Prim.Native.Nat.{ℕ}
 use native.Mathlib.Omega.{arith}
 use lib.IntN.{ℤ}
 use Rattle.rounds.specs.Refusals.{Fault, none, fault}
-use Rattle.files.specs.Promises.{refused, replyUnder, readerFault, writerFault, RoundRead, RoundWritten}
+use Rattle.rounds.specs.Replies.{refused, replyUnder}
+use Rattle.files.specs.Promises.{readerFault, writerFault, RoundRead, RoundWritten}
 use Rattle.files.specs.declared.Reading.{Reading}
 use Rattle.files.specs.declared.Reading.the-variants as Reading′
 use Rattle.files.specs.declared.Writing.{Writing}

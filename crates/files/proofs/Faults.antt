@@ -1,45 +1,58 @@
--- Faults that did not arise, and what a box list with no fault has. Assumes nothing.
-use mathlib.Core.Path.{_≡_, refl}
-use mathlib.Core.Bool.{Bool, true, false, not}
-use mathlib.Core.List.{List}
-use Prim.Native.Nat.{ℕ, _/_, _%_, _≤_}
-use native.Mathlib.Omega.{arith}
-use borrow.Author.Tests.{eqb-true, ltb-false, not-false}
-use lib.Dec.{eqb, ltb}
+-- What lists with no fault have: they are whole, and every number of a box or a plug is of 32 bits. Assumes nothing.
+use mathlib.Core.Path.{_≡_}
+use mathlib.Core.Bool.{not}
+use mathlib.Core.List.{List, [], _∷_}
+use Prim.Native.Nat.{ℕ, _+_, _/_, _%_, _≤_}
+use borrow.Author.Tests.{eqb-true, not-false}
+use lib.Dec.{eqb}
 use lib.IntN.{ℤ}
 use lib.ListN.{length}
-use Rattle.rounds.specs.Boxes.{boxesOf, plugsOf}
-use Rattle.rounds.specs.Refusals.{Fault, none, fault, when, _orElse_, eachBoxFault, boxListFault, eachPlugFault, plugListFault}
+use mir.Syntax.{w32}
+use mir.Val.{SFits}
+use Rattle.integers.proofs.Machine.{fits}
+use Rattle.plane.specs.Points.{Point}
+use Rattle.plane.specs.Members.{All, _&_}
+use Rattle.rounds.specs.Boxes.{Box, BoxInSpan, boxesOf, plugsOf}
+use Rattle.rounds.specs.Refusals.{none, fault, when, boxListFault, plugFault, eachPlugFault, plugListFault}
+use Rattle.rounds.proofs.Accepted.{or-else-none, when-none, accepted, plug-accepted}
 
--- no fault of two in turn is no fault of either
-pub or-else-none : (f g : Fault) → f orElse g ≡ none → (f ≡ none) × (g ≡ none)
-or-else-none none g e = (refl, e)
-or-else-none (fault n p) g e = let z : _≡_ {A = ℕ} 0 1 = cc in absurd (omega arith)
+-- the numbers of a box, and of a plug, are of 32 bits
+pub record BoxFits (b : Box) : Type 0 where
+  pub west : SFits w32 (b .west)
+  pub south : SFits w32 (b .south)
+  pub east : SFits w32 (b .east)
+  pub north : SFits w32 (b .north)
 
--- a cause that did not arise
-pub when-none : (b : Bool) (n p : ℕ) → when b (fault n p) ≡ none → b ≡ false
-when-none true n p e = let z : _≡_ {A = ℕ} 0 1 = cc in absurd (omega arith)
-when-none false n p e = refl
+pub record PlugFits (p : Point) : Type 0 where
+  pub east : SFits w32 (p .east)
+  pub north : SFits w32 (p .north)
 
 -- a box list with no fault is whole and has at most 1,024 boxes
 pub whole-boxes : (l : List ℤ) → boxListFault l ≡ none → (length l % 4 ≡ 0) × (length l / 4 ≤ 1024)
-unfolding boxListFault
-whole-boxes l e =
-    let count = length l / 4 in
-    let one = when (not (eqb (length l % 4) 0)) (fault 1 (length l)) in
-    let two = when (eqb (length l) 0) (fault 2 0) in
-    let three = when (ltb 1024 count) (fault 3 count) in
-    let each = eachBoxFault 1 (boxesOf l) in
-    let r₁ = or-else-none one (two orElse three orElse each) e in
-    let r₂ = or-else-none two (three orElse each) (r₁ .1) in
-    let r₃ = or-else-none three each (r₂ .1) in (
-      eqb-true _ _ (not-false _ (when-none (not (eqb (length l % 4) 0)) 1 (length l) (r₁ .0))),
-      ltb-false _ _ (when-none (ltb 1024 count) 3 count (r₃ .0)),
-    )
+whole-boxes l e = let a = accepted l e in (a .whole, a .few)
+
+pub fit-boxes : (l : List ℤ) → boxListFault l ≡ none → All BoxFits (boxesOf l)
+fit-boxes l e = each (accepted l e .boxes .in-span)
+  where
+    each : {bs : List Box} → All BoxInSpan bs → All BoxFits bs
+    each All.none = All.none
+    each (s & f) = record { west = fits w32 tt (s .west); south = fits w32 tt (s .south); east = fits w32 tt (s .east); north = fits w32 tt (s .north) } & each f
 
 -- a plug list with no fault is whole
-pub whole-plugs : (l : List ℤ) → plugListFault l ≡ none → length l % 2 ≡ 0
+in-turn : (l : List ℤ) → plugListFault l ≡ none → (when (not (eqb (length l % 2) 0)) (fault 1 (length l)) ≡ none) × (eachPlugFault 1 (plugsOf l) ≡ none)
 unfolding plugListFault
-whole-plugs l e =
-    let r = or-else-none (when (not (eqb (length l % 2) 0)) (fault 1 (length l))) (eachPlugFault 1 (plugsOf l)) e in
-    eqb-true _ _ (not-false _ (when-none (not (eqb (length l % 2) 0)) 1 (length l) (r .0)))
+in-turn l e = or-else-none (when (not (eqb (length l % 2) 0)) (fault 1 (length l))) (eachPlugFault 1 (plugsOf l)) e
+
+pub whole-plugs : (l : List ℤ) → plugListFault l ≡ none → length l % 2 ≡ 0
+whole-plugs l e = eqb-true _ _ (not-false _ (when-none (not (eqb (length l % 2) 0)) 1 (length l) (in-turn l e .0)))
+
+each-plug : (k : ℕ) (ps : List Point) → eachPlugFault k ps ≡ none → All PlugFits ps
+unfolding eachPlugFault
+each-plug k [] e = All.none
+each-plug k (p ∷ ps) e =
+    let r = or-else-none (plugFault k p) (eachPlugFault (k + 1) ps) e in
+    let s = plug-accepted k p (r .0) in
+    record { east = fits w32 tt (s .easts); north = fits w32 tt (s .norths) } & each-plug (k + 1) ps (r .1)
+
+pub fit-plugs : (l : List ℤ) → plugListFault l ≡ none → All PlugFits (plugsOf l)
+fit-plugs l e = each-plug 1 (plugsOf l) (in-turn l e .1)

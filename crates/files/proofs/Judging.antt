@@ -9,7 +9,8 @@ use lib.ListN.{length}
 use Rattle.rounds.specs.Refusals.{fault}
 use Rattle.rounds.specs.declared.Refusal.{Refusal}
 use Rattle.files.specs.Content.{Content, contentOf}
-use Rattle.files.specs.Promises.{result, refused, replyUnder, countsOf}
+use Rattle.rounds.specs.Replies.{result, refused, replyUnder}
+use Rattle.files.specs.Promises.{countsOf}
 use Rattle.files.specs.declared.Record.the-variants.{Box, Plug, Note, End, Refused}
 use Rattle.files.proofs.Scan.{scan, from-start, Found, rest-is, short}
 

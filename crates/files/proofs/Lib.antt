@@ -1,6 +1,6 @@
 -- The proofs of the reader and the writer, each file over those above it:
 --     Marks        the kinds of record by their marks, and what stands at an offset by its kind
---     Faults       faults that did not arise
+--     Faults       what lists with no fault have
 --     Scan         the reader's scan, record by record
 --     Judging      the pass that judges the form and counts
 --     Over         writes to a buffer, one after another

@@ -15,11 +15,11 @@ module _ {A : Type 0} where
   pub over-front : (xs new : List A) → over xs 0 new ≡ new ++ drop (length new) xs
   over-front xs new = ap (λ n. new ++ drop n xs) (zero-add (length new))
 
-  pub over-none : (xs : List A) (at : ℕ) → over xs at [] ≡ xs
+  over-none : (xs : List A) (at : ℕ) → over xs at [] ≡ xs
   over-none xs at = ap (λ n. take at xs ++ drop n xs) (add-zero at) ∙ take-append-drop at xs
 
   -- the length stays
-  pub length-over : (xs : List A) (at : ℕ) (new : List A) → at + length new ≤ length xs → length (over xs at new) ≡ length xs
+  length-over : (xs : List A) (at : ℕ) (new : List A) → at + length new ≤ length xs → length (over xs at new) ≡ length xs
   length-over xs at new h =
       let t : at ≤ length xs = omega arith in
       rw (length-append (take at xs) (new ++ drop (at + length new) xs), length-append new (drop (at + length new) xs), length-take-le at xs t, length-drop)
@@ -68,7 +68,7 @@ module _ {A : Type 0} where
           fits = rw (length-append new more) (omega arith);
         }
 
-    pub then-set : (i : ℕ) (a : A) → i ≡ at + length new → i < length xs → Wrote xs at (new ++ (a ∷ [])) (set out i a)
+    then-set : (i : ℕ) (a : A) → i ≡ at + length new → i < length xs → Wrote xs at (new ++ (a ∷ [])) (set out i a)
     then-set i a e h =
         let l : i < length out = omega (arith, wrote-length w) in
         then-over i (a ∷ []) e (omega arith) (set-over out i a l)

@@ -19,6 +19,7 @@ use Rattle.rounds.specs.Refusals.{none}
 use Rattle.files.specs.Format.{fourBytes, numberBytes, boxRecord, plugRecord, endRecord, fileOf, byteAt, markAt, numberAt, boxAt, plugAt, boxKind, plugKind, kindOf, nextAt}
 use Rattle.files.specs.Content.{Content, kindFault, andThen, contentOf}
 use Rattle.files.specs.declared.Record.the-variants.{Box as BoxRecord, Plug as PlugRecord, End as EndRecord}
+use Rattle.files.proofs.Faults.{BoxFits, PlugFits}
 use Rattle.files.proofs.Marks.{record-of}
 use Rattle.files.proofs.Bytes.{length-box, length-plug}
 use Rattle.files.proofs.Scan.{scan, from-start, Found, rest-is}
@@ -56,17 +57,6 @@ unfolding markAt
 mark-is file at a b rest e = let p = ap (byteAt file) (sym (add-zero at)) ∙ byte-is file at 0 e in rw (p, byte-is file at 1 e)
 
 -- ---- a box, a plug and the end at an offset
-
--- the numbers of a box, and of a plug, are of 32 bits
-pub record BoxFits (b : Box) : Type 0 where
-  pub west : SFits w32 (b .west)
-  pub south : SFits w32 (b .south)
-  pub east : SFits w32 (b .east)
-  pub north : SFits w32 (b .north)
-
-pub record PlugFits (p : Point) : Type 0 where
-  pub east : SFits w32 (p .east)
-  pub north : SFits w32 (p .north)
 
 module _ (file : List ℕ) (at : ℕ) (rest : List ℕ) where
   box-found : (b : Box) → drop at file ≡ boxRecord b ++ rest → Found file at false (BoxRecord (at + 18))

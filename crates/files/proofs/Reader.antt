@@ -9,7 +9,8 @@ use lib.ListN.{length}
 use Rattle.rounds.specs.Refusals.{none, fault, bufferFault, readFault}
 use Rattle.rounds.specs.declared.Refusal.{Refusal}
 use Rattle.files.specs.Content.{contentOf}
-use Rattle.files.specs.Promises.{result, readingReply, replyUnder, edges, coordinates, countsOf, readerFault, RoundRead}
+use Rattle.rounds.specs.Replies.{result, replyUnder}
+use Rattle.files.specs.Promises.{readingReply, edges, coordinates, countsOf, readerFault, RoundRead}
 use Rattle.files.specs.Steps.{over, Room}
 use Rattle.files.specs.declared.Counts.{Counts}
 use Rattle.files.specs.declared.Reading.{Reading}

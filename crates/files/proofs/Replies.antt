@@ -3,7 +3,7 @@ use mathlib.Core.Path.{_≡_, refl}
 use Prim.Native.Nat.{ℕ}
 use native.Mathlib.Omega.{arith}
 use Rattle.rounds.specs.Refusals.{Fault, none, fault}
-use Rattle.files.specs.Promises.{result, refused, replyUnder}
+use Rattle.rounds.specs.Replies.{result, refused, replyUnder}
 
 module _ {A : Type 0} where
   pub result-none : (f : Fault) {a b : A} → result a ≡ replyUnder f b → (f ≡ none) × (a ≡ b)

@@ -1,7 +1,7 @@
 -- The two theorems about reading and writing, over the promises of the two calls.
 --     written-read   what was written is read back as the same boxes and plugs in the same order
 --     read-written   a well-formed file without notes, read and written, has the same bytes
--- A list in a promise has any numbers: that those of a slice of i32 are of 32 bits, and those of a slice of u8 below 256, are premises. Assumes nothing.
+-- A list in a promise has any numbers: that those of a slice of u8 are below 256 is a premise of the second. Assumes nothing.
 use mathlib.Core.Path.{_≡_, refl, sym, _∙_, ap}
 use mathlib.Core.List.{List, [], _∷_, _++_, flatMap}
 use Prim.Native.Nat.{ℕ, _*_, _/_, _%_, _≤_}
@@ -10,23 +10,22 @@ use borrow.Author.Tests.{le-ltb}
 use lib.IntN.{ℤ}
 use lib.ListN.{length, take, drop, length-append}
 use lib.Seq.{take-at}
-use mir.Syntax.{w32}
-use mir.Val.{SFits}
 use Rattle.plane.specs.Points.{Point}
-use Rattle.plane.specs.Members.{All, _&_}
 use Rattle.rounds.specs.Boxes.{Box, boxesOf, plugsOf}
 use Rattle.rounds.specs.Refusals.{none, boxListFault, plugListFault, bufferFault, readFault, writeFault}
 use Rattle.files.specs.Format.{boxRecord, plugRecord, endRecord, fileOf}
 use Rattle.files.specs.Content.{contentOf}
-use Rattle.files.specs.Promises.{readingReply, result, edges, coordinates, bufferUnder, readerFault, RoundRead, byteCount, writerFault, RoundWritten}
+use Rattle.rounds.specs.Replies.{result, bufferUnder}
+use Rattle.files.specs.Promises.{readingReply, edges, coordinates, readerFault, RoundRead, byteCount, writerFault, RoundWritten}
 use Rattle.files.specs.declared.Counts.{Counts}
 use Rattle.files.specs.declared.Reading.{Reading}
 use Rattle.files.specs.declared.Reading.the-variants.{Read, Refused}
 use Rattle.files.specs.declared.Writing.the-variants.{Written}
-use Rattle.files.proofs.Faults.{or-else-none, whole-boxes, whole-plugs}
+use Rattle.rounds.proofs.Accepted.{or-else-none}
+use Rattle.files.proofs.Faults.{whole-boxes, whole-plugs, fit-boxes, fit-plugs}
 use Rattle.files.proofs.Replies.{result-none}
 use Rattle.files.proofs.Bytes.{length-flat, count-boxes, count-plugs, length-boxes, length-plugs}
-use Rattle.files.proofs.ReadBack.{BoxFits, PlugFits, held, read-back}
+use Rattle.files.proofs.ReadBack.{held, read-back}
 use Rattle.files.proofs.WriteBack.{AllBytes, write-back}
 
 -- ---- flat lists
@@ -55,19 +54,6 @@ plugs-flat : (ps : List Point) → plugsOf (flatMap coordinates ps) ≡ ps
 unfolding flatMap
 plugs-flat [] = refl
 plugs-flat (p ∷ ps) = ap (λ l. p ∷ l) (plugs-flat ps)
-
--- numbers of 32 bits, by boxes and by plugs
-fit-boxes : (l : List ℤ) → All (SFits w32) l → All BoxFits (boxesOf l)
-fit-boxes [] f = All.none
-fit-boxes (w ∷ []) f = All.none
-fit-boxes (w ∷ s ∷ []) f = All.none
-fit-boxes (w ∷ s ∷ e ∷ []) f = All.none
-fit-boxes (w ∷ s ∷ e ∷ n ∷ l) (fw & fs & fe & fn & f) = record { west = fw; south = fs; east = fe; north = fn } & fit-boxes l f
-
-fit-plugs : (l : List ℤ) → All (SFits w32) l → All PlugFits (plugsOf l)
-fit-plugs [] f = All.none
-fit-plugs (e ∷ []) f = All.none
-fit-plugs (e ∷ n ∷ l) (fe & fn & f) = record { east = fe; north = fn } & fit-plugs l f
 
 -- ---- what was written
 
@@ -113,16 +99,15 @@ reading-is (Read c) e = cc
 reading-is (Refused r) e = let z : _≡_ {A = ℕ} 0 1 = cc in absurd (omega arith)
 
 pub written-read : {boxes plugs : List ℤ} {entry exit : List ℕ} {n : ℕ} {boxesEntry plugsEntry boxesExit plugsExit : List ℤ} {reading : Reading}
-    → All (SFits w32) boxes → All (SFits w32) plugs
     → RoundWritten boxes plugs entry (Written n) exit → RoundRead (take n exit) boxesEntry plugsEntry reading boxesExit plugsExit
     → length boxes ≤ length boxesEntry → length plugs ≤ length plugsEntry
     → ReadBack boxes plugs boxesEntry plugsEntry reading boxesExit plugsExit
 unfolding readerFault readFault bufferFault
-written-read {boxes} {plugs} {entry} {exit} {n} {boxesEntry} {plugsEntry} {reading = reading} fb fp w r hb hp =
+written-read {boxes} {plugs} {entry} {exit} {n} {boxesEntry} {plugsEntry} {reading = reading} w r hb hp =
     let d = was-written w in
     let file = fileOf (boxesOf boxes) (plugsOf plugs) in
     let t : take n exit ≡ file = ap (take n) (d .file) ∙ take-at file (drop n entry) n (sym (d .count)) in
-    let c : contentOf (take n exit) ≡ held (boxesOf boxes) (plugsOf plugs) = ap contentOf t ∙ read-back (boxesOf boxes) (plugsOf plugs) (fit-boxes boxes fb) (fit-plugs plugs fp) in
+    let c : contentOf (take n exit) ≡ held (boxesOf boxes) (plugsOf plugs) = ap contentOf t ∙ read-back (boxesOf boxes) (plugsOf plugs) (fit-boxes boxes (d .boxes-accepted)) (fit-plugs plugs (d .plugs-accepted)) in
     let eb = flat-boxes boxes (whole-boxes boxes (d .boxes-accepted) .0) in
     let ep = flat-plugs plugs (whole-plugs plugs (d .plugs-accepted)) in
     let lb : 4 * length (boxesOf boxes) ≤ length boxesEntry = omega (arith, count-boxes boxes) in

@@ -15,7 +15,7 @@ use Rattle.files.specs.Content.{Content, kindFault, formFault, stop, and
 use Rattle.files.specs.Steps.{refusedOr, kindRecord, recordAt}
 use Rattle.files.specs.declared.Record.{Record}
 use Rattle.files.specs.declared.Record.the-variants.{Box, Plug, Note, End, Refused}
-use Rattle.files.proofs.Faults.{or-else-none, when-none}
+use Rattle.rounds.proofs.Accepted.{or-else-none, when-none}
 
 -- ---- records with no fault
 

@@ -14,7 +14,7 @@ use Rattle.integers.proofs.Parts.{drop-two, drop-four}
 use Rattle.rounds.specs.Refusals.{Fault, none, fault}
 use Rattle.files.specs.Format.{fourBytes, numberBytes, boxRecord, plugRecord, endRecord, fileOf, byteAt, markAt, numberAt, boxAt, plugAt, Kind, boxKind, plugKind, noteKind, endKind, unknownKind, kindAt, nextAt}
 use Rattle.files.specs.Content.{Content, kindFault, formFault, andThen, pluggedBy, readFrom, contentOf}
-use Rattle.files.proofs.Faults.{when-none}
+use Rattle.rounds.proofs.Accepted.{when-none}
 use Rattle.files.proofs.Marks.{marked}
 use Rattle.files.proofs.Scan.{clean, ends-within}
 

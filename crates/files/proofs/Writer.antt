@@ -8,8 +8,8 @@ use lib.ListN.{length, drop, length-drop}
 use mir.Syntax.{w32}
 use mir.Val.{SFits, toZ, ofZ}
 use mir.ValLaws.{toZ-ofZ}
-use Rattle.plane.specs.Points.{point}
-use Rattle.rounds.specs.Boxes.{box, boxesOf, plugsOf}
+use Rattle.plane.specs.Points.{Point, point}
+use Rattle.rounds.specs.Boxes.{Box, box, boxesOf, plugsOf}
 use Rattle.rounds.proofs.Rows.{boxAt, plugAt}
 use Rattle.integers.proofs.Parts.{drop-two, drop-four}
 use Rattle.files.specs.Format.{boxRecord, plugRecord}
@@ -24,16 +24,60 @@ boxRecords xs i = flatMap boxRecord (boxesOf (drop i xs))
 abbrev pub plugRecords : List ℤ → ℕ → List ℕ
 plugRecords xs i = flatMap plugRecord (plugsOf (drop i xs))
 
+-- ---- a turn
+
+-- elements of a flat list, so many numbers each, and the record of each, which is `size` bytes long
+pub record Rows (E : Type 0) : Type 0 where
+  pub numbers : ℕ
+  pub size : ℕ
+  pub all : List ℤ → List E
+  pub row : List ℤ → ℕ → E
+  pub bytes : E → List ℕ
+  pub long : (x : E) → length (bytes x) ≡ size
+  pub first : (xs : List ℤ) (i : ℕ) → i + numbers ≤ length xs → all (drop i xs) ≡ row xs i ∷ all (drop (i + numbers) xs)
+
+abbrev pub boxRows : Rows Box
+boxRows =
+    record {
+      numbers = 4;
+      size = 18;
+      all = boxesOf;
+      row = boxAt;
+      bytes = boxRecord;
+      long = length-box;
+      first = λ xs i h. ap boxesOf (drop-four (pos 0) xs i (omega arith));
+    }
+
+abbrev pub plugRows : Rows Point
+plugRows =
+    record {
+      numbers = 2;
+      size = 10;
+      all = plugsOf;
+      row = plugAt;
+      bytes = plugRecord;
+      long = length-plug;
+      first = λ xs i h. ap plugsOf (drop-two (pos 0) xs i (omega arith));
+    }
+
+-- element k, counted from 0, is written after those before it
+module _ {E : Type 0} (R : Rows E) (xs : List ℤ) (k : ℕ) {file : List ℕ} {at to to′ : ℕ} {whole out out′ : List ℕ} where
+  pub row-turn : Sofar file at whole (flatMap (R .bytes) (R .all (drop (k * R .numbers) xs))) to out → k * R .numbers + R .numbers ≤ length xs
+      → to + R .size ≡ to′ → to′ ≤ length file → out′ ≡ over out to (R .bytes (R .row xs (k * R .numbers)))
+      → Sofar file at whole (flatMap (R .bytes) (R .all (drop ((k + 1) * R .numbers) xs))) to′ out′
+  unfolding flatMap
+  row-turn s h t r e =
+      let x = R .row xs (k * R .numbers) in
+      let l = R .long x in
+      let i : k * R .numbers + R .numbers ≡ (k + 1) * R .numbers = omega arith in
+      let m : to + length (R .bytes x) ≡ to′ = omega arith in
+      let next = flatMap (R .bytes) (R .all (drop ((k + 1) * R .numbers) xs)) in
+      let split = ap (flatMap (R .bytes)) (R .first xs (k * R .numbers) h) ∙ ap (λ j. R .bytes x ++ flatMap (R .bytes) (R .all (drop j xs))) i in
+      subst (λ j. Sofar file at whole next j out′) m (sofar-more s (R .bytes x) next split (omega arith) e)
+
+-- ---- none left
+
 module _ (xs : List ℤ) where
-  -- one more, and none left
-  box-first : (i : ℕ) → i + 3 < length xs → boxRecords xs i ≡ boxRecord (boxAt xs i) ++ boxRecords xs (i + 4)
-  unfolding flatMap
-  box-first i h = ap (λ l. flatMap boxRecord (boxesOf l)) (drop-four (pos 0) xs i h)
-
-  plug-first : (i : ℕ) → i + 1 < length xs → plugRecords xs i ≡ plugRecord (plugAt xs i) ++ plugRecords xs (i + 2)
-  unfolding flatMap
-  plug-first i h = ap (λ l. flatMap plugRecord (plugsOf l)) (drop-two (pos 0) xs i h)
-
   pub no-box : (i : ℕ) → length xs < i + 4 → boxRecords xs i ≡ []
   unfolding flatMap
   no-box i h = go (drop i xs) (omega (arith, length-drop i xs))
@@ -54,27 +98,7 @@ module _ (xs : List ℤ) where
       go (e ∷ []) k = refl
       go (e ∷ n ∷ l) k = absurd (omega arith)
 
-  -- a turn of each loop, for box and plug k, counted from 0, which is written from `to` on
-  module _ (k : ℕ) {file : List ℕ} {at to to′ : ℕ} {whole out out′ : List ℕ} where
-    pub box-turn : Sofar file at whole (boxRecords xs (k * 4)) to out → k * 4 + 3 < length xs → to + 18 ≡ to′ → to′ ≤ length file
-        → out′ ≡ over out to (boxRecord (boxAt xs (k * 4))) → Sofar file at whole (boxRecords xs ((k + 1) * 4)) to′ out′
-    box-turn s h t r e =
-        let b = boxAt xs (k * 4) in
-        let l = length-box b in
-        let i : k * 4 + 4 ≡ (k + 1) * 4 = omega arith in
-        let n : to + length (boxRecord b) ≡ to′ = omega arith in
-        subst (λ n. Sofar file at whole (boxRecords xs ((k + 1) * 4)) n out′) n
-        (sofar-more s (boxRecord b) (boxRecords xs ((k + 1) * 4)) (box-first (k * 4) h ∙ ap (λ n. boxRecord b ++ boxRecords xs n) i) (omega arith) e)
-
-    pub plug-turn : Sofar file at whole (plugRecords xs (k * 2)) to out → k * 2 + 1 < length xs → to + 10 ≡ to′ → to′ ≤ length file
-        → out′ ≡ over out to (plugRecord (plugAt xs (k * 2))) → Sofar file at whole (plugRecords xs ((k + 1) * 2)) to′ out′
-    plug-turn s h t r e =
-        let p = plugAt xs (k * 2) in
-        let l = length-plug p in
-        let i : k * 2 + 2 ≡ (k + 1) * 2 = omega arith in
-        let n : to + length (plugRecord p) ≡ to′ = omega arith in
-        subst (λ n. Sofar file at whole (plugRecords xs ((k + 1) * 2)) n out′) n
-        (sofar-more s (plugRecord p) (plugRecords xs ((k + 1) * 2)) (plug-first (k * 2) h ∙ ap (λ n. plugRecord p ++ plugRecords xs n) i) (omega arith) e)
+-- ---- what a callee is passed
 
 -- a box that is passed on is read back from its edges' bits, and so is a plug
 pub box-plain : {w s e n : ℤ} → SFits w32 w → SFits w32 s → SFits w32 e → SFits w32 n

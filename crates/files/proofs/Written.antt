@@ -54,7 +54,7 @@ module _ (boxes plugs : List ℤ) (file : List ℕ) where
 
   -- boxes, plugs and end, one after another
   module _ {out : List ℕ} (h : afterPlugs boxes plugs + 2 ≤ length file) (e : out ≡ over file 0 (boxBytes boxes)) where
-    pub boxes-written : Wrote file 0 (boxBytes boxes) out
+    boxes-written : Wrote file 0 (boxBytes boxes) out
     boxes-written = then-over (wrote-none file 0 (omega arith)) 0 (boxBytes boxes) (omega arith) (omega (arith, length-boxes boxes)) e
 
     module _ {out′ : List ℕ} (i : out′ ≡ over out (afterBoxes boxes) (plugBytes plugs)) where

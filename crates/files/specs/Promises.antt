@@ -1,12 +1,13 @@
 -- What the reader and the writer promise: the reply, and every number or byte of each lent buffer at exit, refusals too. Definitions only.
 use Prim.Native.Nat.{ℕ, _+_, _*_, _/_}
 use mathlib.Core.Path.{_≡_}
-use mathlib.Core.List.{List, [], _∷_, _++_, flatMap}
+use mathlib.Core.List.{List, [], _∷_, flatMap}
 use lib.IntN.{ℤ}
-use lib.ListN.{length, drop}
+use lib.ListN.{length}
 use Rattle.plane.specs.Points.{Point}
 use Rattle.rounds.specs.Boxes.{Box, boxesOf, plugsOf}
-use Rattle.rounds.specs.Refusals.{Fault, none, fault, readFault, writeFault}
+use Rattle.rounds.specs.Refusals.{Fault, fault, readFault, writeFault}
+use Rattle.rounds.specs.Replies.{Reply, result, refused, replyUnder, bufferUnder}
 use Rattle.files.specs.Format.{fileOf}
 use Rattle.files.specs.Content.{Content, contentOf}
 use Rattle.files.specs.declared.Counts.{Counts}
@@ -15,12 +16,7 @@ use Rattle.files.specs.declared.Reading.the-variants as Reading′
 use Rattle.files.specs.declared.Writing.{Writing}
 use Rattle.files.specs.declared.Writing.the-variants as Writing′
 
--- ---- replies and buffers
-
--- what a call returns: a result, or the number of a cause in document 01's table and its place, and no other result
-pub data Reply (A : Type 0) : Type 0 where
-  result : A → Reply A
-  refused : ℕ → ℕ → Reply A
+-- ---- replies
 
 -- the paper's number and values for each case of the reader's answer
 abbrev pub readingReply : Reading → Reply Counts
@@ -31,16 +27,6 @@ readingReply (Reading′.Refused r) = refused (r .number) (r .place)
 abbrev pub writingReply : Writing → Reply ℕ
 writingReply (Writing′.Written bytes) = result bytes
 writingReply (Writing′.Refused r) = refused (r .number) (r .place)
-
--- the reply under a fault, and under none
-abbrev pub replyUnder : {A : Type 0} → Fault → A → Reply A
-replyUnder none a = result a
-replyUnder (fault number place) a = refused number place
-
--- a lent buffer at exit: what is new, then the remainder as it was; under a fault all as it was
-abbrev pub bufferUnder : {A : Type 0} → Fault → List A → List A → List A
-bufferUnder none new entry = new ++ drop (length new) entry
-bufferUnder (fault number place) new entry = entry
 
 -- ---- the reader
 

@@ -15,7 +15,8 @@ ghost use Rattle.plane.specs.Points.{point};
 ghost use Rattle.rounds.specs.Boxes.{box, boxesOf, plugsOf};
 ghost use Rattle.files.specs.Format.{numberBytes, boxRecord, plugRecord, markAt, numberAt, boxAt, plugAt, noteKind};
 ghost use Rattle.files.specs.Content.{stopsBefore, contentOf};
-ghost use Rattle.files.specs.Promises.{readingReply, replyUnder, countsOf, edges, coordinates, RoundRead, RoundWritten};
+ghost use Rattle.rounds.specs.Replies.{replyUnder};
+ghost use Rattle.files.specs.Promises.{readingReply, countsOf, edges, coordinates, RoundRead, RoundWritten};
 ghost use Rattle.files.specs.Steps.{refusedOr, recordOf, recordAt, over, Room};
 
 // How many boxes and plugs a file holds.

@@ -13,7 +13,8 @@ use Rattle.rounds.specs.Refusals.{Fault, none, fault, refusalFault, _orElse_, i
 use Rattle.rounds.specs.declared.Refusal.{Refusal}
 use Rattle.rounds.proofs.Rows.{boxes-length}
 use Rattle.files.specs.Content.{contentOf}
-use Rattle.files.specs.Promises.{edges, coordinates, countsOf, replyUnder, bufferUnder, readingReply, readerFault, RoundRead}
+use Rattle.rounds.specs.Replies.{replyUnder, bufferUnder}
+use Rattle.files.specs.Promises.{edges, coordinates, countsOf, readingReply, readerFault, RoundRead}
 use Rattle.files.specs.declared.Counts.{Counts}
 use Rattle.files.specs.declared.Reading.{Reading}
 use Rattle.files.specs.declared.Reading.the-variants.{Read, Refused}

@@ -10,7 +10,7 @@ use Rattle.rounds.proofs.Rows.{boxAt}
 use Rattle.files.specs.Format.{boxRecord}
 use Rattle.files.specs.Steps.{over}
 use Rattle.files.proofs.Over.{Sofar, sofar-none, sofar-all, wrote-length}
-use Rattle.files.proofs.Writer.{boxRecords, no-box, box-turn, box-plain}
+use Rattle.files.proofs.Writer.{boxRecords, no-box, boxRows, row-turn, box-plain}
 use Rattle.files.proofs.write_boxes.Statement.{statement}
 use Rattle.files.proofs.write_boxes.Tie as tie
 
@@ -94,7 +94,7 @@ loop-less c = omega arith
 loop-again : tie.Need-loop-again Inv-loop μ-loop
 loop-again c =
     let w = c .before .before in
-    (omega arith, box-turn (turn w .before .before .args .boxes .now) (turn w .loop .k) (turn w .loop .inv .1) (omega arith) (omega arith) (omega arith) (box-written w))
+    (omega arith, row-turn boxRows (turn w .before .before .args .boxes .now) (turn w .loop .k) (turn w .loop .inv .1) (omega arith) (omega arith) (omega arith) (box-written w))
 
 same-length : tie.Need-same-length Inv-loop μ-loop
 same-length c = wrote-length (c .before .loop .inv .1 .wrote)

@@ -10,7 +10,7 @@ use Rattle.rounds.proofs.Rows.{plugAt}
 use Rattle.files.specs.Format.{plugRecord}
 use Rattle.files.specs.Steps.{over}
 use Rattle.files.proofs.Over.{Sofar, sofar-none, sofar-all, wrote-length}
-use Rattle.files.proofs.Writer.{plugRecords, no-plug, plug-turn, plug-plain}
+use Rattle.files.proofs.Writer.{plugRecords, no-plug, plugRows, row-turn, plug-plain}
 use Rattle.files.proofs.write_plugs.Statement.{statement}
 use Rattle.files.proofs.write_plugs.Tie as tie
 
@@ -80,7 +80,7 @@ loop-less c = omega arith
 loop-again : tie.Need-loop-again Inv-loop μ-loop
 loop-again c =
     let w = c .before .before in
-    (omega arith, plug-turn (turn w .before .before .args .plugs .now) (turn w .loop .k) (turn w .loop .inv .1) (omega arith) (omega arith) (omega arith) (plug-written w))
+    (omega arith, row-turn plugRows (turn w .before .before .args .plugs .now) (turn w .loop .k) (turn w .loop .inv .1) (omega arith) (omega arith) (omega arith) (plug-written w))
 
 same-length : tie.Need-same-length Inv-loop μ-loop
 same-length c = wrote-length (c .before .loop .inv .1 .wrote)
