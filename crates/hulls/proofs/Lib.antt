@@ -4,13 +4,17 @@
 --     Chaining   how one more key changes an upper chain
 --     Fan        the vertices of a chain, seen from its first
 --     Mirroring  keys reflected through the middle of the plane
+--     Halving    keys split by a line: the upper chain of a half is that of all
 --     Listing    the two chains make a closed listing, by index
---     Outlines   a closed listing is an outline of the keys' points; the same members have the same polygon
+--     Outlines   a closed listing is an outline of the keys' points
+--     Dropping   keys that are dropped before sorting
 --     Made       the polygon of a list of keys, from what the calls promise
 pub mod Turning
 pub mod Chaining
 pub mod Fan
 pub mod Mirroring
+pub mod Halving
 pub mod Listing
 pub mod Outlines
+pub mod Dropping
 pub mod Made

@@ -9,8 +9,7 @@ use lib.Dec.{ltb}
 use borrow.Author.Tests.{lt-ltb, le-ltb}
 use lib.IntN.{pos}
 use lib.Signed.{_≤ℤ_, _<ℤ_}
-use Rattle.sorting.specs.Order.{Rising, Within}
-use Rattle.sorting.proofs.Order.{rising-le}
+use Rattle.sorting.specs.Order.{Sorted, Within}
 use Rattle.sorting.proofs.Pigeons.{within-few}
 use Rattle.turns.specs.Keys.{Key}
 use Rattle.hulls.specs.Chains.{Keys, turn, Chain}
@@ -43,34 +42,37 @@ pub record Closed (q : ℕ → ℕ) (m : ℕ) (p : ℕ → ℕ) (h : ℕ) : Type
 pub closed-few : {q p : ℕ → ℕ} {m h : ℕ} → Closed q m p h → h ≤ m
 closed-few c = within-few (c .from) (c .apart)
 
--- ---- one key
+-- ---- one key, as often as it is there
 
-pub single-key : (q p : ℕ → ℕ) → p 0 ≡ q 0 → Closed q 1 p 1
-single-key q p e =
+pub single-key : (q : ℕ → ℕ) (m : ℕ) (p : ℕ → ℕ) → 1 ≤ m → ((i : ℕ) → i < m → q i ≡ q 0) → p 0 ≡ q 0 → Closed q m p 1
+single-key q m p some same e =
     record {
       some = omega arith;
-      from = record { find = λ i l. let z : i ≡ 0 = omega arith in (0, omega arith, rw z e) };
+      from = record { find = λ i l. let z : i ≡ 0 = omega arith in (0, some, rw z e) };
       apart = λ i j a b. absurd (omega arith);
       right = λ i j j′ l n. alone i j j′ l n;
       bends = λ x y z l. absurd (omega arith);
-      least = λ i l. let z : i ≡ 0 = omega arith in rw z (omega (arith, e));
-      one = λ z i l. let c : i ≡ 0 = omega arith in rw c (sym e);
+      least = λ i l. omega (arith, same i l, e);
+      one = λ z i l. same i l ∙ sym e;
       most = λ z. absurd (omega arith);
     }
   where
-    alone : (i j j′ : ℕ) → i < 1 → Next 1 j j′ → turn (p j) (p j′) (q i) ≤ℤ pos 0
+    alone : (i j j′ : ℕ) → i < m → Next 1 j j′ → turn (p j) (p j′) (q i) ≤ℤ pos 0
     alone i j j′ l (on a b) = absurd (omega arith)
     alone i j j′ l (round a b) =
         let c : j ≡ 0 = omega arith in
-        let d : i ≡ 0 = omega arith in
-        rw (b, c, d, e) (turn-end (q 0) (q 0))
+        rw (b, c, same i l, e) (turn-end (q 0) (q 0))
 
--- ---- two keys or more: u is the upper chain, with a sides, and l the upper chain of the reflected keys f, with b sides
+-- ---- two different keys or more: u is the upper chain, with a sides, and l the upper chain of the reflected keys f, with b sides
 
-module _ (q : ℕ → ℕ) (m : ℕ) (ups : Rising q m) (ks : Keys q m) (more : 2 ≤ m)
+module _ (q : ℕ → ℕ) (m : ℕ) (ups : Sorted q 0 m) (ks : Keys q m) (ends : q 0 < q (m - 1))
     (u : ℕ → ℕ) (a : ℕ) (cu : Chain q m u (suc a)) (f : ℕ → ℕ) (mi : Mirrors q m f) (l : ℕ → ℕ) (b : ℕ) (cl : Chain f m l (suc b)) where
-  ends : q 0 < q (m - 1)
-  ends = ups .less 0 (m - 1) (omega arith) (omega arith)
+  more : 2 ≤ m
+  more = go (decLt 1 m)
+    where
+      go : Dec (1 < m) → 2 ≤ m
+      go (yes h) = omega arith
+      go (no h) = let z : m - 1 ≡ 0 = omega arith in let e : q 0 < q 0 = subst (λ i. q 0 < q i) z ends in absurd (omega arith)
 
   u-last : u a ≡ q (m - 1)
   u-last = cu .last (m - 1) a (omega arith) refl
@@ -281,13 +283,13 @@ module _ (q : ℕ → ℕ) (m : ℕ) (ups : Rising q m) (ks : Keys q m) (more : 
     from′ j h (no k) = let r = d-from (j - a) (omega arith) in (r .0, r .1, p-down (j - a) j (omega arith) (omega arith) ∙ r .2)
 
     least′ : (i : ℕ) → i < m → p 0 ≤ q i
-    least′ i h = let r = rising-le ups 0 i (omega arith) h in omega (arith, p-zero)
+    least′ i h = let r = ups .le 0 i (omega arith) (omega arith) h in omega (arith, p-zero)
 
     most′ : a + b ≡ 2 → (i : ℕ) → i < m → q i ≤ p 1
     most′ e i h =
         let o : 1 ≡ a = omega (arith, a-some, b-some) in
         let z : p 1 ≡ q (m - 1) = ap p o ∙ p-last in
-        let r = rising-le ups i (m - 1) (omega arith) (omega arith) in
+        let r = ups .le i (m - 1) (omega arith) (omega arith) (omega (arith, more)) in
         omega arith
 
     pub closed-is : Closed q m p (a + b)

@@ -1,4 +1,4 @@
--- A closed listing of keys is the polygon of the keys' points. The polygon of some points is that of any others with the same members. Assumes nothing.
+-- A closed listing of keys is the polygon of the keys' points. Assumes nothing.
 use mathlib.Core.Path.{_≡_, refl, sym, _∙_}
 use mathlib.Core.List.{List, [], _∷_, map}
 use Prim.Native.Nat.{ℕ, suc, _≤_, _<_}
@@ -9,8 +9,8 @@ use lib.ListN.{length, getD, length-map, List·getD-map}
 use Rattle.integers.proofs.Order.{≤-antisym}
 use Rattle.plane.specs.Points.{Point, signedArea}
 use Rattle.plane.specs.Members.{All, _∈_}
-use Rattle.plane.specs.Polygons.{Distinct, Extreme, Steps, AllRight, Clockwise, Polygon}
-use Rattle.plane.proofs.Lists.{all-at, all-of, all-imp, all-map, all-by-index, in-map, in-by-index, index-of-in}
+use Rattle.plane.specs.Polygons.{Distinct, AllRight, Clockwise}
+use Rattle.plane.proofs.Lists.{all-map, all-by-index, in-map, in-by-index, index-of-in}
 use Rattle.plane.proofs.Indexed.{around-by-index, turns-by-index, distinct-by-index}
 use Rattle.plane.proofs.PolygonFacts.{TurnsRight, Between}
 use Rattle.plane.proofs.Outline.{Outline, one-point, in-line, area}
@@ -94,30 +94,6 @@ closed-outline keys (x ∷ y ∷ z ∷ vs) c = area members (apart keys l c) sid
         (λ i h. bend keys l c i (suc i) (suc (suc i)) (omega arith) (on (omega (arith, n)) refl) (on (omega (arith, n)) refl))
         (bend keys l c (length (map pointOf (z ∷ vs))) (suc (length (map pointOf (z ∷ vs)))) 0 (omega arith) (on (omega (arith, n)) refl) (round (omega (arith, n)) refl))
         (bend keys l c (suc (length (map pointOf (z ∷ vs)))) 0 1 (omega arith) (round (omega (arith, n)) refl) (on (omega arith) refl))
-
--- ---- the same members, the same polygon
-
-module _ {qs rs : List Point} (f : (p : Point) → p ∈ qs → p ∈ rs) (g : (p : Point) → p ∈ rs → p ∈ qs) where
-  same-extreme : (p : Point) → Extreme qs p → Extreme rs p
-  same-extreme p e = record { listed = f p (e .listed); apart = λ others o. e .apart others (all-imp (λ q h. (g q (h .0), h .1)) o) }
-
-  same-steps : (v : Point) (vs : List Point) → Steps (AllRight qs) v vs → Steps (AllRight rs) v vs
-  same-steps v [] s = tt
-  same-steps v (a ∷ []) s = all-of rs (λ q m. all-at s (g q m))
-  same-steps v (a ∷ b ∷ vs) s = (all-of rs (λ q m. all-at (s .0) (g q m)), same-steps v (b ∷ vs) (s .1))
-
-  same-clockwise : (vs : List Point) → Clockwise qs vs → Clockwise rs vs
-  same-clockwise [] s = tt
-  same-clockwise (v ∷ vs) s = same-steps v (v ∷ vs) s
-
-pub same-polygon : {qs rs vs : List Point} → ((p : Point) → p ∈ qs → p ∈ rs) → ((p : Point) → p ∈ rs → p ∈ qs) → Polygon qs vs → Polygon rs vs
-same-polygon {vs = vs} f g P =
-    record {
-      only-extreme = all-imp (same-extreme f g) (P .only-extreme);
-      every-extreme = λ p e. P .every-extreme p (same-extreme g f p e);
-      once-each = P .once-each;
-      clockwise = λ n. same-clockwise f g vs (P .clockwise n);
-    }
 
 -- each of the one keys is among the others, so each of their points is
 pub within-points : (l m : List ℕ) → Within (get l) (length l) (get m) (length m) → (p : Point) → p ∈ map pointOf l → p ∈ map pointOf m

@@ -2,6 +2,7 @@
 -- speaks of keys in order. Assumes nothing.
 use mathlib.Core.Bool.{Bool, true, false, not}
 use mathlib.Core.Path.{_≡_, sym, _∙_, subst}
+use mathlib.Core.Logic.{⊎-elim}
 use Prim.Native.Nat.{ℕ, _≤_, _<_}
 use native.Mathlib.Decide.{decLt}
 use native.Mathlib.Omega.{arith}
@@ -11,7 +12,7 @@ use lib.Signed.{_≤ℤ_, _<ℤ_, ltZ, ltZ-yes, ltZ-no}
 use Rattle.integers.proofs.Expr.{_⊕_, _⊖_, _⊗_, ⊝_, #_, _≐_, _≼_, _≺_, _⟹_, bot, Pt, PtE}
 use Rattle.integers.proofs.Ring.{ring}
 use Rattle.integers.proofs.Cert.{cert, hyp, sq, eqn, _⊞_, _⊠_, _∵_, _∵_÷_}
-use Rattle.integers.proofs.Order.{<→≤, ≡→≤}
+use Rattle.integers.proofs.Order.{<→≤, ≡→≤, lt-or-ge}
 use Rattle.plane.specs.Points.{Point, point, signedArea}
 use Rattle.plane.proofs.Twins.{pt, signedAreaᴱ, det, detᴱ}
 use Rattle.plane.proofs.Angular.{Up, ahead, above, right-trans, right-trans-l}
@@ -57,6 +58,11 @@ pub turn-end : (a b : ℕ) → turn a b b ≤ℤ pos 0
 unfolding turn
 turn-end a b = ≡→≤ (ring 2 0 (λ a b. signedAreaᴱ a b b ≐ # 0) tt (place a) (place b))
 
+-- the last key is not right of the line to it
+pub not-right-end : (a b : ℕ) → turn a b b <ℤ pos 0 → ⊥
+unfolding turn
+not-right-end a b = cert 2 0 (λ a b. signedAreaᴱ a b b ≺ # 0 ⟹ bot ∵ hyp 0) tt (place a) (place b)
+
 pub cyclic-< : (a b c : ℕ) → turn a b c <ℤ pos 0 → turn b c a <ℤ pos 0
 unfolding turn
 cyclic-< a b c = cert 3 0 (λ a b c. signedAreaᴱ a b c ≺ # 0 ⟹ signedAreaᴱ b c a ≺ # 0 ∵ hyp 0) tt (place a) (place b) (place c)
@@ -64,6 +70,10 @@ cyclic-< a b c = cert 3 0 (λ a b c. signedAreaᴱ a b c ≺ # 0 ⟹ signedArea�
 pub turn-back : (a b c : ℕ) → turn b a c ≤ℤ pos 0 → pos 0 ≤ℤ turn a b c
 unfolding turn
 turn-back a b c = cert 3 0 (λ a b c. signedAreaᴱ b a c ≼ # 0 ⟹ # 0 ≼ signedAreaᴱ a b c ∵ hyp 0) tt (place a) (place b) (place c)
+
+pub turn-over : (a b c : ℕ) → pos 0 ≤ℤ turn a b c → turn b a c ≤ℤ pos 0
+unfolding turn
+turn-over a b c = cert 3 0 (λ a b c. # 0 ≼ signedAreaᴱ a b c ⟹ signedAreaᴱ b a c ≼ # 0 ∵ hyp 0) tt (place a) (place b) (place c)
 
 -- x is not on both sides of the line from f to l
 pub not-both : (f l x : ℕ) → turn f x l <ℤ pos 0 → turn f l x <ℤ pos 0 → ⊥
@@ -97,6 +107,19 @@ behind {p} {c} {r} {q} h k l g f =
     (right-trans (step q c) (step p c) (step c r) (up l) (up h) (up k)
     (cert 3 0 (λ p c q. signedAreaᴱ p c q ≼ # 0 ⟹ detᴱ (wayᴱ q c) (wayᴱ p c) ≼ # 0 ∵ hyp 0) tt (place p) (place c) (place q) g)
     (cert 3 0 (λ p c r. signedAreaᴱ p c r ≼ # 0 ⟹ detᴱ (wayᴱ p c) (wayᴱ c r) ≼ # 0 ∵ hyp 0) tt (place p) (place c) (place r) f))
+
+-- k, which is between f and l in order and right of the line from f to l or on it, is right of a's side to b or on it, where f and l are
+pub cover : {f l k a b : ℕ} → f < k → k < l → a < b → turn f l k ≤ℤ pos 0 → turn a b f ≤ℤ pos 0 → turn a b l ≤ℤ pos 0 → turn a b k ≤ℤ pos 0
+unfolding turn
+cover {f} {l} {k} {a} {b} x y z t p q = ⊎-elim (λ h. absurd (beyond-both h)) (λ h. h) (lt-or-ge (pos 0) (signedArea (pointOf a) (pointOf b) (pointOf k)))
+  where
+    beyond-both : pos 0 <ℤ signedArea (pointOf a) (pointOf b) (pointOf k) → ⊥
+    beyond-both h =
+        cert 3 0 (λ f k l. detᴱ (wayᴱ f k) (wayᴱ k l) ≺ # 0 ⟹ signedAreaᴱ f l k ≼ # 0 ⟹ bot ∵ hyp 0 ⊞ hyp 1) tt (place f) (place k) (place l)
+        (right-trans-l (step f k) (step a b) (step k l) (up x) (up z) (up y)
+        (cert 4 0 (λ f k a b. # 0 ≺ signedAreaᴱ a b k ⟹ signedAreaᴱ a b f ≼ # 0 ⟹ detᴱ (wayᴱ f k) (wayᴱ a b) ≺ # 0 ∵ hyp 0 ⊞ hyp 1) tt (place f) (place k) (place a) (place b) h p)
+        (<→≤ (cert 4 0 (λ k l a b. # 0 ≺ signedAreaᴱ a b k ⟹ signedAreaᴱ a b l ≼ # 0 ⟹ detᴱ (wayᴱ a b) (wayᴱ k l) ≺ # 0 ∵ hyp 0 ⊞ hyp 1) tt (place k) (place l) (place a) (place b) h q)))
+        t
 
 -- around z, before all
 pub around : {z b c e : ℕ} → z < b → z < c → z < e → turn z b c <ℤ pos 0 → turn z c e <ℤ pos 0 → turn z b e <ℤ pos 0

@@ -11,6 +11,7 @@
 --     PolygonFacts   the closed listing with strict turns is the polygon; one vertex, and two
 --     Outline        what a hull's making promises, from which the polygon follows
 --     Reading        and back: the polygon's definition gives the outline
+--     Dropping       points with kept points in all four quadrants round them may be dropped
 --     Unique         a polygon's listing is one but for its start; with a westmost start there is one
 --     Others         extreme: not in the hull of all other points at once
 --     Indexed        listings by index, for loops over slices
@@ -26,6 +27,7 @@ pub mod Supporting
 pub mod PolygonFacts
 pub mod Outline
 pub mod Reading
+pub mod Dropping
 pub mod Unique
 pub mod Others
 pub mod Indexed

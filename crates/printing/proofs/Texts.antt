@@ -10,10 +10,10 @@ use lib.Seq.{take-at}
 use Rattle.plane.specs.Points.{Point}
 use Rattle.rounds.specs.Boxes.{Box, boxesOf, plugsOf}
 use Rattle.rounds.specs.Refusals.{Fault, none, fault, refusalFault, _orElse_, inputFault, bufferFault, boxListFault, readFault}
+use Rattle.rounds.specs.Replies.{replyUnder, bufferUnder}
 use Rattle.rounds.specs.declared.Refusal.{Refusal}
 use Rattle.rounds.proofs.Rows.{boxes-length}
 use Rattle.files.specs.Content.{contentOf}
-use Rattle.rounds.specs.Replies.{replyUnder, bufferUnder}
 use Rattle.files.specs.Promises.{edges, coordinates, countsOf, readingReply, readerFault, RoundRead}
 use Rattle.files.specs.declared.Counts.{Counts}
 use Rattle.files.specs.declared.Reading.{Reading}

@@ -30,13 +30,17 @@ add-out : (t : ℕ) → write-decimal-lts.Need-add-out (below t, write-decimal.P
 add-out t c = omega arith
 
 slice-write-out : (t : ℕ) → write-decimal-lts.Need-slice-write-out (below t, write-decimal.Post) (at t) write-decimal.Post
-slice-write-out t c = let s = c .before .before in omega (arith, length-small (s .args .number) (c .if1 .taken))
+slice-write-out t c =
+    let s = c .before .before in
+    omega (arith, s .pre .1, length-small (s .args .number) (omega (arith, c .if1 .taken)))
 
 same-length : (t : ℕ) → write-decimal-lts.Need-same-length (below t, write-decimal.Post) (at t) write-decimal.Post
 same-length t c = simp length-set
 
 returns : (t : ℕ) → write-decimal-lts.Need-returns (below t, write-decimal.Post) (at t) write-decimal.Post
-returns t c = let s = c .before .before in wrote-digit (s .args .number) (s .args .out .now) (c .if1 .taken) (s .pre .1)
+returns t c =
+    let s = c .before .before in
+    wrote-digit (s .args .number) (s .args .out .now) (omega (arith, c .if1 .taken)) (s .pre .1)
 
 write-decimal-requires : (t : ℕ) → write-decimal-lts.Need-write-decimal-requires (below t, write-decimal.Post) (at t) write-decimal.Post
 write-decimal-requires t c κs =

@@ -17,7 +17,7 @@ abbrev file : tie.After-plugs2 → List ℕ
 file c = c .before .before .before .before .before .before .before .args .file .now
 
 not-long : (c : tie.After-plugs2) → length (file c) ≤ 65536
-not-long c = c .before .before .before .before .before .if1 .left
+not-long c = omega (arith, c .before .before .before .before .before .if1 .left)
 
 -- what the reader left
 taken : (c : tie.After-reading)
