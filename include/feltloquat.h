@@ -12,8 +12,9 @@
  *   zero.
  * A pick succeeds for the first driver if the plug is not strictly inside its hull, and for the second if the plug is in its hull.
  *
- * Every answer is a struct, returned by value. It starts with `refused` and `place`. `refused` is 0, and then `place` is 0; or it is the
- * number of a cause in this table, and then every other result in the struct is 0 and every lent buffer is as it was:
+ * Every answer, but the printing program's text, is a struct, returned by value. It starts with `refused` and `place`. `refused` is 0, and
+ * then `place` is 0; or it is the number of a cause in this table, and then every other result in the struct is 0 and every lent buffer is
+ * as it was:
  *
  *   number  cause                                                         place
  *    1      box list not a multiple of 4 numbers, or plug list not of 2   list length

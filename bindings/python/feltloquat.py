@@ -41,6 +41,7 @@ CAUSES = {
     9: "file stops within a record, or with no end record",
     10: "box after a plug",
     11: "byte after the end record",
+    12: "program input over 65,536 bytes",
 }
 
 
@@ -141,6 +142,9 @@ _word = _declare("word", _WordAnswer, [ctypes.c_int32], 2)
 _verdict_on_records = _declare("verdict_on_records", _VerdictAnswer, [_Box], 2)
 _read_round = _declare("read_round", _ReadAnswer, [ctypes.c_uint8, ctypes.c_int32, ctypes.c_int32])
 _write_round = _declare("write_round", _WriteAnswer, [ctypes.c_int32, ctypes.c_int32, ctypes.c_uint8])
+
+_library.feltloquat_print_round.restype = ctypes.c_size_t
+_library.feltloquat_print_round.argtypes = [ctypes.POINTER(ctypes.c_uint8), ctypes.c_size_t, ctypes.POINTER(ctypes.c_uint8)]
 
 
 def _lent(kind, values):
@@ -257,3 +261,14 @@ def write_round(boxes, plugs):
     """A round as the bytes of a file without notes."""
     file = bytearray(len(boxes) // 4 * 18 + len(plugs) // 2 * 10 + 2)
     return bytes(file[: write_round_into(boxes, plugs, file)])
+
+
+# ---- the printing program
+
+
+def print_round(file):
+    """The text that the printing program prints for a round file: one line 'refused NUMBER PLACE', 12 for more than 65,536 bytes; or
+    'boxes COUNT plugs COUNT', then per plug its number and a word, or its number and 'refused 6'."""
+    text = (ctypes.c_uint8 * 131072)()
+    count = _library.feltloquat_print_round(_lent(ctypes.c_uint8, file), len(file), text)
+    return bytes(text[:count]).decode("ascii")

@@ -14,7 +14,7 @@ HERE = os.path.dirname(os.path.abspath(__file__))
 sys.path[:0] = [HERE, os.path.join(HERE, "..", "..")]
 
 import feltloquat
-from oracle import cases, files, rounds
+from oracle import cases, files, printing, rounds
 
 SEED = 20815
 ROUNDS = 20000
@@ -70,6 +70,8 @@ class Measured(unittest.TestCase):
         file = bytes.fromhex(text)
         self.assertEqual(feltloquat.read_round(file), ([0, 0, 4, 4], [2, 2, 5, 2]))
         self.assertEqual(feltloquat.write_round([0, 0, 4, 4], [2, 2, 5, 2]), file)
+        self.assertEqual(feltloquat.print_round(file), "boxes 1 plugs 2\n1 undecided\n2 outside\n")
+        self.assertEqual(feltloquat.print_round(bytes(65537)), "refused 12 65536\n")
 
     def test_numbers_beyond_32_bits(self):
         for call in (feltloquat.verdict, feltloquat.word):
@@ -195,6 +197,7 @@ class Random(unittest.TestCase):
             case = "seed %d, file %d: %s, lengths %s" % (SEED, number, file.hex(), lengths)
             self.assertEqual(given, wanted if wanted[0] == "refused" else wanted[1:], case)
             self.assertEqual(list(lists), after, case)
+            self.assertEqual(feltloquat.print_round(file), printing.print_text(bytes(file)).decode("ascii"), case)
         print("files, seed %d: %d agreed, %.1f s" % (SEED, FILES, time.time() - start))
 
 

@@ -102,4 +102,6 @@ extern "C" {
         file: *mut u8,
         file_length: usize,
     ) -> WriteAnswer;
+
+    pub fn feltloquat_print_round(file: *const u8, file_length: usize, text: *mut [u8; 131_072]) -> usize;
 }

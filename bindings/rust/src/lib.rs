@@ -70,6 +70,7 @@ use std::fmt;
 /// | 9 | file stops within a record, or with no end record | offset where that record begins, or the file length |
 /// | 10 | box after a plug | offset of its mark |
 /// | 11 | byte after the end record | its offset |
+/// | 12 | program input over 65,536 bytes (only in what [`print_round`] prints) | 65536 |
 #[derive(Clone, Copy, Debug, PartialEq, Eq)]
 pub struct Refusal {
     /// The cause's number.
@@ -428,4 +429,22 @@ pub fn write_round_into(boxes: &[i32], plugs: &[i32], file: &mut [u8]) -> Result
     };
     refusal(answer.refused, answer.place)?;
     Ok(answer.bytes)
+}
+
+/// How many bytes the text of [`print_round_into`] may need at most, for every input.
+pub const TEXT_LENGTH: usize = 131_072;
+
+/// What the printing program prints for a round file: one line `refused NUMBER PLACE` (12 for more than 65,536 bytes, then as
+/// [`read_round`], then as [`verdict`] does for the boxes); or `boxes COUNT plugs COUNT`, then per plug its number and a word, or its
+/// number and `refused 6`.
+pub fn print_round(file: &[u8]) -> String {
+    let mut text = Box::new([0; TEXT_LENGTH]);
+    let count = print_round_into(file, &mut text);
+    text[..count].iter().copied().map(char::from).collect()
+}
+
+/// [`print_round`] into a lent buffer, in ASCII; returns how many bytes the text has. Bytes after those are unchanged.
+pub fn print_round_into(file: &[u8], text: &mut [u8; TEXT_LENGTH]) -> usize {
+    // SAFETY: the slice and the array are lent for the call alone, and do not overlap.
+    unsafe { calls::feltloquat_print_round(file.as_ptr(), file.len(), text) }
 }

@@ -1,8 +1,8 @@
 //! The measured rounds of document 01.
 
 use feltloquat::{
-    corner_polygons, outer_polygon, outer_polygon_into, read_round, verdict, word, write_round, Corner, Point, Refusal, Round,
-    Verdict, Word,
+    corner_polygons, outer_polygon, outer_polygon_into, print_round, read_round, verdict, word, write_round, Corner, Point,
+    Refusal, Round, Verdict, Word,
 };
 
 const ROUND_B: [i32; 16] = [0, 0, 2, 2, 8, 0, 10, 2, 8, 8, 10, 10, 0, 8, 2, 10];
@@ -81,6 +81,8 @@ fn the_printing_programs_sample() {
     assert_eq!(read_round(&file), Ok(round.clone()));
     assert_eq!(write_round(&round.boxes, &round.plugs), Ok(file.to_vec()));
     assert_eq!(read_round(&file[..file.len() - 1]), refused(9, 38));
+    assert_eq!(print_round(&file), "boxes 1 plugs 2\n1 undecided\n2 outside\n");
+    assert_eq!(print_round(&[0; 65_537]), "refused 12 65536\n");
 }
 
 #[test]

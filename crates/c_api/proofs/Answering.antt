@@ -4,6 +4,7 @@ use Prim.Native.Nat.{ℕ}
 use native.Mathlib.Omega.{arith}
 use borrow.Author.Tests.{ne-eqb}
 use Rattle.rounds.specs.Refusals.{Fault, none, fault}
+use Rattle.rounds.specs.Replies.{refused, replyUnder}
 use Rattle.rounds.specs.declared.Refusal.{Refusal}
 use Rattle.c_api.specs.Answers.{Answered, unlessRefused}
 use Rattle.c_api.proofs.Faults.{Numbered, cause}
@@ -22,3 +23,8 @@ refused-back r refusal a none n e = absurd (let z : _≡_ {A = ℕ} 0 1 = cc in 
 refused-back r refusal a (fault number place) (cause h) e =
     let same : r .number ≡ number = cc in
     rw (ne-eqb (r .number) 0 (λ z. omega arith))
+
+-- a refused reply is by its fault
+pub by-fault : {A : Type 0} (f : Fault) (a : A) (number place : ℕ) → refused number place ≡ replyUnder f a → fault number place ≡ f
+by-fault none a number place e = absurd (let z : _≡_ {A = ℕ} 0 1 = cc in omega arith)
+by-fault (fault n p) a number place e = cc

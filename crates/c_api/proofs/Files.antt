@@ -2,10 +2,7 @@
 use mathlib.Core.Path.{_≡_, refl}
 use mathlib.Core.List.{List}
 use Prim.Native.Nat.{ℕ}
-use native.Mathlib.Omega.{arith}
 use lib.IntN.{ℤ}
-use Rattle.rounds.specs.Refusals.{Fault, none, fault}
-use Rattle.rounds.specs.Replies.{refused, replyUnder}
 use Rattle.files.specs.Promises.{readerFault, writerFault, RoundRead, RoundWritten}
 use Rattle.files.specs.declared.Reading.{Reading}
 use Rattle.files.specs.declared.Reading.the-variants as Reading′
@@ -13,12 +10,7 @@ use Rattle.files.specs.declared.Writing.{Writing}
 use Rattle.files.specs.declared.Writing.the-variants as Writing′
 use Rattle.c_api.specs.Files.{readStruct, readMeant, writeStruct, writeMeant}
 use Rattle.c_api.proofs.Faults.{reader-numbered, writer-numbered}
-use Rattle.c_api.proofs.Answering.{refused-back}
-
--- a refused reply is by its fault
-by-fault : {A : Type 0} (f : Fault) (a : A) (number place : ℕ) → refused number place ≡ replyUnder f a → fault number place ≡ f
-by-fault none a number place e = absurd (let z : _≡_ {A = ℕ} 0 1 = cc in omega arith)
-by-fault (fault n p) a number place e = cc
+use Rattle.c_api.proofs.Answering.{refused-back, by-fault}
 
 pub read-back : (file : List ℕ) (boxes plugs boxes′ plugs′ : List ℤ) (reading : Reading) → RoundRead file boxes plugs reading boxes′ plugs′
     → readMeant (readStruct reading) ≡ reading

@@ -1,12 +1,9 @@
 -- The structs of the verdict calls mean the verdicts and words that they are given for. Assumes nothing.
 use mathlib.Core.Path.{_≡_, refl, ap}
 use mathlib.Core.List.{List}
-use Prim.Native.Nat.{ℕ}
-use native.Mathlib.Omega.{arith}
 use lib.IntN.{ℤ}
 use Rattle.plane.specs.Points.{Point}
-use Rattle.rounds.specs.Refusals.{Fault, none, fault, verdictFault}
-use Rattle.rounds.specs.Replies.{refused, replyUnder}
+use Rattle.rounds.specs.Refusals.{verdictFault}
 use Rattle.rounds.specs.declared.Corner.{Corner}
 use Rattle.rounds.specs.declared.Corner.the-variants.{SouthWest, SouthEast, NorthEast, NorthWest}
 use Rattle.verdicts.specs.Verdicts.{VerdictIs, wordReply, verdictOn}
@@ -17,12 +14,7 @@ use Rattle.verdicts.specs.declared.PlugWord.{PlugWord}
 use Rattle.verdicts.specs.declared.PlugWord.the-variants as PlugWord′
 use Rattle.c_api.specs.Verdicts.{cornerNumber, cornerMeant, reasonedStruct, reasonsMeant, verdictStruct, verdictMeant, wordStruct, wordMeant}
 use Rattle.c_api.proofs.Faults.{verdict-numbered}
-use Rattle.c_api.proofs.Answering.{refused-back}
-
--- a refused reply is by its fault
-by-fault : {A : Type 0} (f : Fault) (a : A) (number place : ℕ) → refused number place ≡ replyUnder f a → fault number place ≡ f
-by-fault none a number place e = absurd (let z : _≡_ {A = ℕ} 0 1 = cc in omega arith)
-by-fault (fault n p) a number place e = cc
+use Rattle.c_api.proofs.Answering.{refused-back, by-fault}
 
 corner-back : (c : Corner) → cornerMeant (cornerNumber c) ≡ c
 corner-back SouthWest = refl

@@ -1,4 +1,5 @@
-// The public calls for C: each answer is a struct of numbers, returned by value. include/feltloquat.h says the same for C.
+// The public calls for C: each answer is a struct of numbers, returned by value. No call has a `requires`. A call's promise is that of the
+// call it wraps, of the answer that the struct means (specs/Answers.antt). include/feltloquat.h says the same for C.
 ghost use mathlib.Core.Path.{_≡_};
 ghost use Rattle.plane.specs.Points.{point};
 ghost use Rattle.areas.specs.Areas.{OuterPromise, CornersPromise};

@@ -112,16 +112,22 @@ fn outer_polygon_in(
     hulls::hull(&mut keys[..n], vertices, mirror, lower)
 }
 
-// The corner polygon of that one corner of every box: the first of vertices, as many as are returned.
+// The corner polygon of that one corner of every box: the first of vertices, as many as are returned. Few boxes take little scratch.
 pub fn corner_polygon(boxes: &[i32], corner: Corner, vertices: &mut [u32]) -> usize
     requires { ⌜ boxListFault (now boxes) ≡ none ⌝ }
     requires { ⌜ length (now boxes) / 4 ≤ length (now vertices) ⌝ }
     ensures { λ r. ⌜ PolygonKeys (cornersOf corner (boxesOf (now (boxes .entry)))) (now (vertices .exit)) r ⌝ }
 {
-    if boxes.len() <= 256 {
-        let mut keys = [0u32; 64];
-        let mut mirror = [0u32; 64];
-        let mut lower = [0u32; 64];
+    if boxes.len() <= 128 {
+        let mut keys = [0u32; 32];
+        let mut mirror = [0u32; 32];
+        let mut lower = [0u32; 32];
+        return corner_polygon_in(boxes, corner, vertices, &mut keys, &mut mirror, &mut lower);
+    }
+    if boxes.len() <= 1024 {
+        let mut keys = [0u32; 256];
+        let mut mirror = [0u32; 256];
+        let mut lower = [0u32; 256];
         return corner_polygon_in(boxes, corner, vertices, &mut keys, &mut mirror, &mut lower);
     }
     let mut keys = [0u32; 1024];
@@ -130,16 +136,22 @@ pub fn corner_polygon(boxes: &[i32], corner: Corner, vertices: &mut [u32]) -> us
     corner_polygon_in(boxes, corner, vertices, &mut keys, &mut mirror, &mut lower)
 }
 
-// The outer polygon: the first of vertices, as many as are returned.
+// The outer polygon: the first of vertices, as many as are returned. Few boxes take little scratch.
 pub fn outer_polygon(boxes: &[i32], vertices: &mut [u32]) -> usize
     requires { ⌜ boxListFault (now boxes) ≡ none ⌝ }
     requires { ⌜ length (now boxes) ≤ length (now vertices) ⌝ }
     ensures { λ r. ⌜ PolygonKeys (allCorners (boxesOf (now (boxes .entry)))) (now (vertices .exit)) r ⌝ }
 {
-    if boxes.len() <= 256 {
-        let mut keys = [0u32; 256];
-        let mut mirror = [0u32; 256];
-        let mut lower = [0u32; 256];
+    if boxes.len() <= 128 {
+        let mut keys = [0u32; 128];
+        let mut mirror = [0u32; 128];
+        let mut lower = [0u32; 128];
+        return outer_polygon_in(boxes, vertices, &mut keys, &mut mirror, &mut lower);
+    }
+    if boxes.len() <= 1024 {
+        let mut keys = [0u32; 1024];
+        let mut mirror = [0u32; 1024];
+        let mut lower = [0u32; 1024];
         return outer_polygon_in(boxes, vertices, &mut keys, &mut mirror, &mut lower);
     }
     let mut keys = [0u32; 4096];

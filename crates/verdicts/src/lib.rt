@@ -235,12 +235,20 @@ fn place_of(boxes: &[i32], plug: u32) -> Place
     requires { ⌜ (boxListFault (now boxes) ≡ none) × Key plug ⌝ }
     ensures { λ r. ⌜ PlaceSays (boxesOf (now (boxes .entry))) (pointOf plug) r ⌝ }
 {
-    if boxes.len() <= 256 {
-        let mut outer = [0u32; 256];
-        let mut sw = [0u32; 64];
-        let mut se = [0u32; 64];
-        let mut ne = [0u32; 64];
-        let mut nw = [0u32; 64];
+    if boxes.len() <= 128 {
+        let mut outer = [0u32; 128];
+        let mut sw = [0u32; 32];
+        let mut se = [0u32; 32];
+        let mut ne = [0u32; 32];
+        let mut nw = [0u32; 32];
+        return place_in(boxes, plug, &mut outer, &mut sw, &mut se, &mut ne, &mut nw);
+    }
+    if boxes.len() <= 1024 {
+        let mut outer = [0u32; 1024];
+        let mut sw = [0u32; 256];
+        let mut se = [0u32; 256];
+        let mut ne = [0u32; 256];
+        let mut nw = [0u32; 256];
         return place_in(boxes, plug, &mut outer, &mut sw, &mut se, &mut ne, &mut nw);
     }
     let mut outer = [0u32; 4096];

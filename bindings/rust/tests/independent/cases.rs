@@ -237,3 +237,25 @@ pub fn noise(g: &mut Generator) -> Vec<u8> {
     let length = g.below(48);
     (0..length).map(|_| g.one_of(&[0x5B, 0x5C, 0x00, 0x01, 0x02, 0x03, 0xFF])).collect()
 }
+
+/// Puts a number beyond the span into a box of a file that starts with one.
+pub fn spoil_file(g: &mut Generator, file: &mut [u8]) {
+    let at = 2 + 4 * g.below(4);
+    file[at..at + 4].copy_from_slice(&beyond(g).to_be_bytes());
+}
+
+/// A well-formed file of a length: a box, notes, a plug, end.
+pub fn file_of_length(length: usize) -> Vec<u8> {
+    let edges = [0, 0, 4, 4].map(i32::to_be_bytes).concat();
+    let plug = [2, 2].map(i32::to_be_bytes).concat();
+    let mut left = length - 18 - 10 - 2;
+    let mut notes = Vec::new();
+    while left > 0 {
+        // No note is shorter than 3 bytes, so the last one but one leaves none or 3 at least.
+        let size = if left <= 258 { left } else { 258.min(left - 3) };
+        notes.extend([0x5C, 0x00, (size - 3) as u8]);
+        notes.resize(notes.len() + size - 3, 0xEE);
+        left -= size;
+    }
+    [&[0x5B, 0x01], &edges[..], &notes, &[0x5B, 0x02], &plug, &[0x5B, 0x00]].concat()
+}

@@ -66,3 +66,23 @@ pub fn write(boxes: &[i32], plugs: &[i32], length: usize) -> Result<Vec<u8>, Cau
     let bytes = bytes_of(boxes, plugs);
     cause_of_length(length, bytes.len()).map_or(Ok(bytes), Err)
 }
+
+/// What the printing program prints. `word` is the word of accepted boxes and an accepted plug.
+pub fn print(file: &[u8], word: impl Fn(&[i32], (i32, i32)) -> &'static str) -> String {
+    let long = (file.len() > 65_536).then_some((12, 65_536));
+    let parsed = long.map_or_else(|| parse(file), Err);
+    let accepted = parsed.and_then(|(boxes, plugs)| cause_of_boxes(&boxes).map_or(Ok((boxes, plugs)), Err));
+    let (boxes, plugs) = match accepted {
+        Ok(lists) => lists,
+        Err((number, place)) => return format!("refused {number} {place}\n"),
+    };
+    let mut text = format!("boxes {} plugs {}\n", boxes.len() / 4, plugs.len() / 2);
+    for (index, plug) in plugs.chunks_exact(2).enumerate() {
+        let says = match cause_of_plugs(plug) {
+            Some(_) => "refused 6",
+            None => word(&boxes, (plug[0], plug[1])),
+        };
+        text += &format!("{} {says}\n", index + 1);
+    }
+    text
+}

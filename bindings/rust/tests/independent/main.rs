@@ -6,6 +6,7 @@ mod definition;
 mod format;
 mod wrapping;
 
+use std::cell::OnceCell;
 use std::collections::BTreeMap;
 use std::fmt::Debug;
 use std::time::Instant;
@@ -250,6 +251,25 @@ fn compare_write(tally: &mut Tally, boxes: &[i32], plugs: &[i32], length: usize)
     tally.compared("write_round", wanted.err());
 }
 
+fn compare_print(tally: &mut Tally, file: &[u8]) {
+    let polygons = OnceCell::new();
+    let wanted = format::print(file, |boxes, plug| {
+        let polygons = polygons.get_or_init(|| wrapping::polygons(&definition::boxes_of(boxes)));
+        name_of(wrapping::word(polygons, (i64::from(plug.0), i64::from(plug.1))))
+    });
+    let before = lent_bytes(feltloquat::TEXT_LENGTH);
+    let mut text: Box<[u8; feltloquat::TEXT_LENGTH]> = before.clone().try_into().expect("the length");
+    let count = feltloquat::print_round_into(file, &mut text);
+    if count != wanted.len() || text[..count] != *wanted.as_bytes() {
+        fail("print_round", &file, &wanted, &String::from_utf8_lossy(&text[..count.min(text.len())]));
+    }
+    if text[count..] != before[count..] || feltloquat::print_round(file) != wanted {
+        fail("print_round", &file, &"the buffer as it was after the text", &count);
+    }
+    let refused = wanted.strip_prefix("refused ").and_then(|rest| rest.split(' ').next());
+    tally.compared("print_round", refused.map(|number| (number.parse().expect("a number"), 0)));
+}
+
 // ---- many cases
 
 /// Lengths of a buffer where some numbers are needed: exactly those, one less, more.
@@ -479,6 +499,42 @@ fn round_trips(tally: &mut Tally, g: &mut Generator) {
     }
 }
 
+/// Files of accepted rounds, with plugs in and beyond the span; then damaged, cut and made too long.
+fn printed_files(tally: &mut Tally, g: &mut Generator) {
+    for number in 0..10_000 {
+        let span = 1 + g.below(8) as i32;
+        let boxes = cases::small_round(g, number % cases::SMALL_KINDS, span);
+        let count = g.below(13);
+        let plugs: Vec<i32> = (0..count)
+            .flat_map(|_| {
+                let near = (g.between(-1, span + 1), g.between(-1, span + 1));
+                let (east, north) = if g.below(8) == 0 { cases::far_plug(g) } else { near };
+                [east, north]
+            })
+            .collect();
+        let mut file = format::bytes_of(&boxes, &plugs);
+        compare_print(tally, &file);
+        let place = g.below(file.len());
+        match g.below(4) {
+            0 => file[place] ^= 1 << g.below(8),
+            1 => file.truncate(place),
+            2 => file.insert(place, 0x5B),
+            _ => cases::spoil_file(g, &mut file),
+        }
+        compare_print(tally, &file);
+    }
+    // As many plugs as a file of 65,536 bytes can hold behind 1,024 boxes, and behind one.
+    let boxes = cases::large_round(g, 1_024);
+    let plugs: Vec<i32> = (0..2 * 4_710).map(|_| g.between(-16_000, 16_000)).collect();
+    compare_print(tally, &format::bytes_of(&boxes, &plugs));
+    let many: Vec<i32> = (0..2 * 6_551).map(|_| g.between(-2, 3)).collect();
+    compare_print(tally, &format::bytes_of(&[0, 0, 1, 1], &many));
+    for length in [65_535, 65_536, 65_537, 70_000] {
+        compare_print(tally, &vec![0x5B; length]);
+        compare_print(tally, &cases::file_of_length(length));
+    }
+}
+
 /// The edges of the limits: 1,024 boxes and 1,025, 16,000 and 16,001, 8 × N and one less.
 fn limits(tally: &mut Tally) {
     let word = |edges: &[Edges], at: Pair| wrapping::word(&wrapping::polygons(edges), at);
@@ -509,7 +565,7 @@ fn main() {
     println!("independent implementation, seed {SEED:#x}");
     let mut tally = Tally::default();
     let mut g = Generator::new(SEED);
-    let sections: [(&str, fn(&mut Tally, &mut Generator)); 8] = [
+    let sections: [(&str, fn(&mut Tally, &mut Generator)); 9] = [
         ("limits", |tally, _| limits(tally)),
         ("small rounds", small_rounds),
         ("tiny rounds, pick by pick", tiny_rounds),
@@ -518,6 +574,7 @@ fn main() {
         ("refused calls", refused_calls),
         ("damaged files", damaged_files),
         ("round trips", round_trips),
+        ("printed files", printed_files),
     ];
     for (name, section) in sections {
         let (start, before) = (Instant::now(), tally.total());
@@ -527,7 +584,7 @@ fn main() {
     println!("  by call: {:?}", tally.calls);
     println!("  by word: {:?}", tally.words);
     println!("  by refusal: {:?}", tally.causes);
-    if (1..=11).any(|number| !tally.causes.contains_key(&number)) || tally.words.len() != 3 {
+    if (1..=12).any(|number| !tally.causes.contains_key(&number)) || tally.words.len() != 3 {
         println!("FAILED: a refusal or a word was never met");
         std::process::exit(1);
     }

@@ -1,3 +1,4 @@
+-- `c_api::corners_struct` meets its contract: each arm gives its case's struct. Assumes nothing.
 use mathlib.Core.Path.{sym, ap}
 use Rattle.c_api.specs.Areas.{cornersStruct}
 use borrow.Author.Needs.{needs}

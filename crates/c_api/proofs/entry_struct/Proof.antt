@@ -1,3 +1,4 @@
+-- `c_api::entry_struct` meets its contract, by the corner's number. Assumes nothing.
 use borrow.Author.Needs.{needs}
 use Rattle.c_api.proofs.entry_struct.Statement.{statement}
 use Rattle.c_api.proofs.entry_struct.Tie as tie

@@ -1,3 +1,4 @@
+-- `c_api::feltloquat_corner_polygons` meets its contract: it gives the reply that `areas::corner_polygons` promises. Assumes nothing.
 use Rattle.c_api.specs.Areas.{cornersStruct, cornersMeant}
 use Rattle.c_api.proofs.Answering.{answered}
 use Rattle.c_api.proofs.Areas.{corners-back}

@@ -1,3 +1,4 @@
+-- `c_api::feltloquat_outer_polygon` meets its contract: it gives the reply that `areas::outer_polygon` promises. Assumes nothing.
 use Rattle.c_api.specs.Areas.{outerStruct, outerMeant}
 use Rattle.c_api.proofs.Answering.{answered}
 use Rattle.c_api.proofs.Areas.{outer-back}

@@ -1,3 +1,4 @@
+-- `c_api::feltloquat_read_round` meets its contract: it gives the answer that `files::read_round` promises. Assumes nothing.
 use Rattle.c_api.specs.Files.{readStruct, readMeant}
 use Rattle.c_api.proofs.Answering.{answered}
 use Rattle.c_api.proofs.Files.{read-back}

@@ -1,3 +1,4 @@
+-- `c_api::feltloquat_verdict` meets its contract: it gives the verdict that `verdicts::verdict_on` promises. Assumes nothing.
 use mir.Syntax.{w32}
 use mir.ValLaws.{toZ-ofZ}
 use Rattle.plane.specs.Points.{point}

@@ -1,3 +1,4 @@
+-- `c_api::feltloquat_word` meets its contract: it gives the word that `verdicts::word_on` promises. Assumes nothing.
 use mathlib.Core.Path.{_≡_}
 use mir.Syntax.{w32}
 use mir.ValLaws.{toZ-ofZ}

@@ -1,3 +1,4 @@
+-- `c_api::feltloquat_write_round` meets its contract: it gives the answer that `files::write_round` promises. Assumes nothing.
 use Rattle.c_api.specs.Files.{writeStruct, writeMeant}
 use Rattle.c_api.proofs.Answering.{answered}
 use Rattle.c_api.proofs.Files.{write-back}

@@ -1,3 +1,4 @@
+-- `c_api::read_struct` meets its contract: each arm gives its case's struct. Assumes nothing.
 use mathlib.Core.Path.{sym, ap}
 use Rattle.c_api.specs.Files.{readStruct}
 use borrow.Author.Needs.{needs}

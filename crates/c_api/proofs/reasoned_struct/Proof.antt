@@ -1,3 +1,4 @@
+-- `c_api::reasoned_struct` meets its contract, field by field. Assumes nothing.
 use mir.Syntax.{w32}
 use mir.ValLaws.{toZ-ofZ}
 use borrow.Author.Needs.{needs}

@@ -1,3 +1,4 @@
+-- `c_api::verdict_struct` meets its contract: each arm gives its case's struct. Assumes nothing.
 use mathlib.Core.Path.{sym, ap, _∙_}
 use Rattle.c_api.specs.Verdicts.{verdictStruct}
 use borrow.Author.Needs.{needs}

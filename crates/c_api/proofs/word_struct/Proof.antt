@@ -1,3 +1,4 @@
+-- `c_api::word_struct` meets its contract: each arm gives its case's struct. Assumes nothing.
 use mathlib.Core.Path.{sym, ap}
 use Rattle.c_api.specs.Verdicts.{wordStruct}
 use borrow.Author.Needs.{needs}

@@ -1,10 +1,14 @@
--- `outlines::corner_polygon` meets its contract: scratch for 64 boxes is enough for few, and for 1,024 for all. Assumes nothing.
+-- `outlines::corner_polygon` meets its contract: scratch for 32 boxes, for 256 or for 1,024 is enough for as many. Assumes nothing.
 use Prim.Native.Nat.{_/_, _≤_}
+use native.Mathlib.Omega.{arith}
 use borrow.Author.Needs.{needs}
 use lib.ListN.{length}
 use Rattle.rounds.proofs.Accepted.{accepted}
 use Rattle.outlines.proofs.corner_polygon.Statement.{statement}
 use Rattle.outlines.proofs.corner_polygon.Tie as tie
+use Rattle.outlines.proofs.corner_polygon.Reads as reads
+use Rattle.outlines.proofs.corner_polygon.Lts as lts
+use Rattle.outlines.proofs.corner_polygon_in.Reads as corner-polygon-in-reads
 
 slice-aggregate-corner-polygon-in : tie.Need-slice-aggregate-corner-polygon-in
 slice-aggregate-corner-polygon-in c = search needs
@@ -35,9 +39,8 @@ slice-aggregate-corner-polygon-in-6 c = search needs
 
 corner-polygon-in-requires-2 : tie.Need-corner-polygon-in-requires-2
 corner-polygon-in-requires-2 c κs =
-    let s = c .before .before .before .before .before .before in
-    let a = accepted (s .args .boxes .now) (s .pre .0) in
-    let few : length (s .args .boxes .now) / 4 ≤ 1024 = a .few in
+    let s = c .before .before .before .before .before .before .before in
+    let few : length (s .args .boxes .now) / 4 ≤ 256 = omega (arith, c .before .before .before .before .if2 .taken) in
     (s .pre .0, record { in-vertices = s .pre .1; in-keys = few; in-mirror = few; in-lower = few })
 
 same-length-2 : tie.Need-same-length-2
@@ -45,6 +48,28 @@ same-length-2 c = search needs
 
 returns-2 : tie.Need-returns-2
 returns-2 c = search needs
+
+slice-aggregate-corner-polygon-in-7 : tie.Need-slice-aggregate-corner-polygon-in-7
+slice-aggregate-corner-polygon-in-7 c = search needs
+
+slice-aggregate-corner-polygon-in-8 : tie.Need-slice-aggregate-corner-polygon-in-8
+slice-aggregate-corner-polygon-in-8 c = search needs
+
+slice-aggregate-corner-polygon-in-9 : tie.Need-slice-aggregate-corner-polygon-in-9
+slice-aggregate-corner-polygon-in-9 c = search needs
+
+corner-polygon-in-requires-3 : tie.Need-corner-polygon-in-requires-3
+corner-polygon-in-requires-3 c κs =
+    let s = c .before .before .before .before .before .before .before in
+    let a = accepted (s .args .boxes .now) (s .pre .0) in
+    let few : length (s .args .boxes .now) / 4 ≤ 1024 = a .few in
+    (s .pre .0, record { in-vertices = s .pre .1; in-keys = few; in-mirror = few; in-lower = few })
+
+same-length-3 : tie.Need-same-length-3
+same-length-3 c = search needs
+
+returns-3 : tie.Need-returns-3
+returns-3 c = search needs
 
 pub corner-polygon-spec : {M : Type 1} → statement M
 corner-polygon-spec =
@@ -61,4 +86,10 @@ corner-polygon-spec =
     slice-aggregate-corner-polygon-in-6
     corner-polygon-in-requires-2
     same-length-2
-    returns-2)
+    returns-2
+    slice-aggregate-corner-polygon-in-7
+    slice-aggregate-corner-polygon-in-8
+    slice-aggregate-corner-polygon-in-9
+    corner-polygon-in-requires-3
+    same-length-3
+    returns-3)

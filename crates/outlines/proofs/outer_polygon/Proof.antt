@@ -1,11 +1,14 @@
--- `outlines::outer_polygon` meets its contract: scratch for 64 boxes is enough for few, and for 1,024 for all. Assumes nothing.
-use Prim.Native.Nat.{_≤_}
+-- `outlines::outer_polygon` meets its contract: scratch for 32 boxes, for 256 or for 1,024 is enough for as many. Assumes nothing.
+use Prim.Native.Nat.{_/_, _≤_}
 use native.Mathlib.Omega.{arith}
 use borrow.Author.Needs.{needs}
 use lib.ListN.{length}
 use Rattle.rounds.proofs.Accepted.{accepted}
 use Rattle.outlines.proofs.outer_polygon.Statement.{statement}
 use Rattle.outlines.proofs.outer_polygon.Tie as tie
+use Rattle.outlines.proofs.outer_polygon.Reads as reads
+use Rattle.outlines.proofs.outer_polygon.Lts as lts
+use Rattle.outlines.proofs.outer_polygon_in.Reads as outer-polygon-in-reads
 
 slice-aggregate-outer-polygon-in : tie.Need-slice-aggregate-outer-polygon-in
 slice-aggregate-outer-polygon-in c = search needs
@@ -35,17 +38,35 @@ slice-aggregate-outer-polygon-in-6 : tie.Need-slice-aggregate-outer-polygon-in-6
 slice-aggregate-outer-polygon-in-6 c = search needs
 
 outer-polygon-in-requires-2 : tie.Need-outer-polygon-in-requires-2
-outer-polygon-in-requires-2 c κs =
-    let s = c .before .before .before .before .before .before in
-    let a = accepted (s .args .boxes .now) (s .pre .0) in
-    let few : length (s .args .boxes .now) ≤ 4096 = omega (arith, a .few, a .whole) in
-    (s .pre .0, record { in-vertices = s .pre .1; in-keys = few; in-mirror = few; in-lower = few })
+outer-polygon-in-requires-2 c κs = search needs
 
 same-length-2 : tie.Need-same-length-2
 same-length-2 c = search needs
 
 returns-2 : tie.Need-returns-2
 returns-2 c = search needs
+
+slice-aggregate-outer-polygon-in-7 : tie.Need-slice-aggregate-outer-polygon-in-7
+slice-aggregate-outer-polygon-in-7 c = search needs
+
+slice-aggregate-outer-polygon-in-8 : tie.Need-slice-aggregate-outer-polygon-in-8
+slice-aggregate-outer-polygon-in-8 c = search needs
+
+slice-aggregate-outer-polygon-in-9 : tie.Need-slice-aggregate-outer-polygon-in-9
+slice-aggregate-outer-polygon-in-9 c = search needs
+
+outer-polygon-in-requires-3 : tie.Need-outer-polygon-in-requires-3
+outer-polygon-in-requires-3 c κs =
+    let s = c .before .before .before .before .before .before .before in
+    let a = accepted (s .args .boxes .now) (s .pre .0) in
+    let few : length (s .args .boxes .now) ≤ 4096 = omega (arith, a .few, a .whole) in
+    (s .pre .0, record { in-vertices = s .pre .1; in-keys = few; in-mirror = few; in-lower = few })
+
+same-length-3 : tie.Need-same-length-3
+same-length-3 c = search needs
+
+returns-3 : tie.Need-returns-3
+returns-3 c = search needs
 
 pub outer-polygon-spec : {M : Type 1} → statement M
 outer-polygon-spec =
@@ -62,4 +83,10 @@ outer-polygon-spec =
     slice-aggregate-outer-polygon-in-6
     outer-polygon-in-requires-2
     same-length-2
-    returns-2)
+    returns-2
+    slice-aggregate-outer-polygon-in-7
+    slice-aggregate-outer-polygon-in-8
+    slice-aggregate-outer-polygon-in-9
+    outer-polygon-in-requires-3
+    same-length-3
+    returns-3)
