@@ -1,8 +1,10 @@
 // Feltloquat's calls side by side with CGAL, Boost.Geometry and GEOS, on the same rounds, in one run.
 //
-// Rounds: at random, on a circle, all in line; 16, 128 and 1,024 boxes. Each time is the best of many repetitions, in microseconds.
+// Rounds: at random, on a circle, all in line; 16, 128 and 1,024 boxes. Each time is the best of many repetitions, in microseconds. A verdict is measured on two
+// plugs; of Feltloquat's two times the longer counts, of a peer's the shorter.
 // Feltloquat is handed the box list and writes its answer; a peer is handed its own points, made beforehand, and makes its own polygon.
 #include "feltloquat.h"
+#include "rounds.hpp"
 
 #include <CGAL/Exact_predicates_inexact_constructions_kernel.h>
 #include <CGAL/Polygon_2_algorithms.h>
@@ -31,10 +33,6 @@ using BoostPoint = bg::model::d2::point_xy<double>;
 using BoostPoints = bg::model::multi_point<BoostPoint>;
 using BoostPolygon = bg::model::polygon<BoostPoint>;
 
-struct Box { int32_t west, south, east, north; };
-using Boxes = std::vector<Box>;
-using Plug = std::pair<int32_t, int32_t>;
-
 static volatile uint64_t sink;
 
 // The best of many repetitions, in microseconds; at least 20 and about a third of a second in all.
@@ -48,54 +46,6 @@ template <class Work> static double best(Work work) {
         least = std::min(least, std::chrono::duration<double, std::micro>(clock::now() - from).count());
     }
     return least;
-}
-
-// The generator of oracle/cases.py.
-struct Generator {
-    uint64_t state;
-    uint32_t below(uint32_t limit) {
-        state = (state * 1103515245 + 12345) % 2147483648u;
-        return (state >> 16) % limit;
-    }
-};
-
-static Boxes random_boxes(size_t count) {
-    Generator g{1};
-    Boxes boxes;
-    for (size_t k = 0; k < count; ++k) {
-        int32_t w = int32_t(g.below(31000)) - 15500, s = int32_t(g.below(31000)) - 15500;
-        boxes.push_back({w, s, w + int32_t(g.below(400)), s + int32_t(g.below(400))});
-    }
-    return boxes;
-}
-
-static Boxes circle_boxes(size_t count) {
-    Boxes boxes;
-    Generator g{2};
-    for (size_t k = 0; k < count; ++k) {
-        double turn = 6.283185307179586 * double(k) / double(count);
-        int32_t e = int32_t(std::lround(15000 * std::cos(turn))), n = int32_t(std::lround(15000 * std::sin(turn)));
-        boxes.push_back({e, n, e + int32_t(g.below(40)), n + int32_t(g.below(40))});
-    }
-    // In an order that is not the circle's.
-    for (size_t k = count; 1 < k; --k) std::swap(boxes[k - 1], boxes[g.below(uint32_t(k))]);
-    return boxes;
-}
-
-static Boxes line_boxes(size_t count) {
-    Boxes boxes;
-    Generator g{3};
-    for (size_t k = 0; k < count; ++k) {
-        int32_t at = int32_t(g.below(30001)) - 15000;
-        boxes.push_back({at, at, at, at});
-    }
-    return boxes;
-}
-
-static std::vector<int32_t> flat(const Boxes &boxes) {
-    std::vector<int32_t> list;
-    for (const Box &b : boxes) list.insert(list.end(), {b.west, b.south, b.east, b.north});
-    return list;
 }
 
 static std::vector<Plug> plugs_of(size_t count) {
@@ -193,7 +143,7 @@ template <class Peer> static std::vector<double> times(Peer &peer, const std::ve
     return {
         best([&] { return hulls(0, 1); }),
         best([&] { return hulls(1, 5); }),
-        best([&] { size_t n = hulls(0, 5); return n + tests(plugs[0]); }),
+        std::min(best([&] { size_t n = hulls(0, 5); return n + tests(verdict_plugs[0]); }), best([&] { size_t n = hulls(0, 5); return n + tests(verdict_plugs[1]); })),
         best([&] { size_t n = hulls(0, 5); for (const Plug &p : plugs) n += tests(p); return n; }),
     };
 }
@@ -208,6 +158,10 @@ static std::vector<uint8_t> file_of(const std::vector<int32_t> &boxes, const std
     return file;
 }
 
+static double verdict(const std::vector<int32_t> &list, const Plug &p) {
+    return best([&] { return feltloquat_verdict(list.data(), list.size(), p.first, p.second).word; });
+}
+
 static std::vector<double> ours(const std::vector<int32_t> &list, const std::vector<Plug> &plugs) {
     std::vector<int32_t> answer(2 * list.size());
     std::vector<uint8_t> file = file_of(list, plugs);
@@ -215,7 +169,7 @@ static std::vector<double> ours(const std::vector<int32_t> &list, const std::vec
     return {
         best([&] { return feltloquat_outer_polygon(list.data(), list.size(), answer.data(), answer.size()).vertices; }),
         best([&] { return feltloquat_corner_polygons(list.data(), list.size(), answer.data(), answer.size()).southwest; }),
-        best([&] { return feltloquat_verdict(list.data(), list.size(), plugs[0].first, plugs[0].second).word; }),
+        std::max(verdict(list, verdict_plugs[0]), verdict(list, verdict_plugs[1])),
         best([&] { return feltloquat_print_round(file.data(), file.size(), text.data()); }),
     };
 }
@@ -223,12 +177,11 @@ static std::vector<double> ours(const std::vector<int32_t> &list, const std::vec
 int main() {
     initGEOS(nullptr, nullptr);
     const char *works[4] = {"outer polygon", "corner polygons", "one verdict", "plugs of one round"};
-    const char *shapes[3] = {"random", "circle", "line"};
     std::printf("%-20s %-7s %6s %10s %10s %10s %10s %10s %7s\n", "work", "shape", "boxes", "feltloquat", "cgal-andrew", "cgal-akl", "boost", "geos", "ratio");
     std::vector<double> worst(4, 0);
     for (int shape = 0; shape < 3; ++shape)
         for (size_t count : {size_t(16), size_t(128), size_t(1024)}) {
-            Boxes boxes = shape == 0 ? random_boxes(count) : shape == 1 ? circle_boxes(count) : line_boxes(count);
+            Boxes boxes = boxes_of(shape, count);
             std::vector<Plug> plugs = plugs_of(count == 1024 ? 4700 : 6000);
             std::vector<double> us = ours(flat(boxes), plugs);
             Cgal andrew(boxes, false), akl(boxes, true);

@@ -80,28 +80,25 @@ module _ {qs : List Point} (p : Point) {a b c : ℕ} {α β γ : ℤ} {u v w : W
 -- ---- one vertex
 
 -- the vertex v with the weight n
-abbrev weighted : ℕ → ℕ → Weighted
+abbrev pub weighted : ℕ → ℕ → Weighted
 weighted v n = record { vertex = v; weight = n }
 
 exactly : (v n : ℕ) → Weighs v (pos n) (weighted v n)
 exactly v n = record { vertex-is = refl; weight-is = refl }
 
-pub balance-at-point : (v k : ℕ) → Key v → v ≡ k → BalanceOf (v ∷ []) k (Triangle (weighted v 1) (weighted v 0) (weighted v 0))
-balance-at-point v k hv e =
-    record {
-      says = λ qs P.
-          let entry : (n : ℕ) → n ≤ 1 → Entry qs v (pos n) (weighted v n)
-          = λ n h. record { key = hv; listed = first (P .only-extreme) .listed; high = le n h; weighs = exactly v n } in
-          balances (pointOf k) (entry 1 (omega arith)) (entry 0 (omega arith)) (entry 0 (omega arith)) (record { lt = tt })
-          (zero-sum (λ q. q .east)) (zero-sum (λ q. q .north));
-    }
+pub point-balances : {qs : List Point} (v k : ℕ) → Key v → pointOf v ∈ qs → v ≡ k → Balances qs (pointOf k) (weighted v 1 ∷ weighted v 0 ∷ weighted v 0 ∷ [])
+point-balances {qs} v k hv m e =
+    balances (pointOf k) (entry 1 (omega arith)) (entry 0 (omega arith)) (entry 0 (omega arith)) (record { lt = tt }) (zero-sum (λ q. q .east)) (zero-sum (λ q. q .north))
   where
-    le : (n : ℕ) → n ≤ 1 → pos n ≤ℤ pos 2048000000
-    le n h = record { le = le→leb n 2048000000 (omega arith) }
+    entry : (n : ℕ) → n ≤ 1 → Entry qs v (pos n) (weighted v n)
+    entry n h = record { key = hv; listed = m; high = record { le = le→leb n 2048000000 (omega arith) }; weighs = exactly v n }
 
     zero-sum : (f : Point → ℤ)
         → pos 1 *ℤ (f (pointOf v) -ℤ pos 1 *ℤ f (pointOf k)) +ℤ pos 0 *ℤ (f (pointOf v) -ℤ pos 1 *ℤ f (pointOf k)) +ℤ pos 0 *ℤ (f (pointOf v) -ℤ pos 1 *ℤ f (pointOf k)) ≡ pos 0
     zero-sum f = lin 0 2 (λ v k. v ≐ k ⟹ # 1 ⊗ (v ⊖ # 1 ⊗ k) ⊕ # 0 ⊗ (v ⊖ # 1 ⊗ k) ⊕ # 0 ⊗ (v ⊖ # 1 ⊗ k) ≐ # 0) (omega arith) (f (pointOf v)) (f (pointOf k)) (ap (λ n. f (pointOf n)) e)
+
+pub balance-at-point : (v k : ℕ) → Key v → v ≡ k → BalanceOf (v ∷ []) k (Triangle (weighted v 1) (weighted v 0) (weighted v 0))
+balance-at-point v k hv e = record { says = λ qs P. point-balances v k hv (first (P .only-extreme) .listed) e }
 
 -- a direction has the one point strictly behind it, where the plug is another
 pub balance-off-point : (v k : ℕ) → (v ≡ k → ⊥) → BalanceOf (v ∷ []) k Separated
@@ -136,24 +133,50 @@ module _ (a b k : ℕ) where
   balance-past h = record { says = λ qs P. before (pointOf b) (pointOf a) (pointOf k) (all-imp (λ q x. between-swap x) (all-between P)) h }
 
   module _ (ha : Key a) (hb : Key b) (hk : Key k) (e : signedArea (pointOf a) (pointOf b) (pointOf k) ≡ pos 0) where
+    -- each is weighed by how far the plug lies ahead of the other
+    pub between-balances : {qs : List Point} (m n : ℕ) → pointOf a ∈ qs → pointOf b ∈ qs → pos 0 <ℤ ahead (pointOf a) (pointOf b) (pointOf b)
+        → pos m ≡ ahead (pointOf b) (pointOf a) (pointOf k) → pos n ≡ ahead (pointOf a) (pointOf b) (pointOf k)
+        → Balances qs (pointOf k) (weighted a m ∷ weighted b n ∷ weighted a 0 ∷ [])
+    between-balances m n ma mb apart hm hn =
+        balances (pointOf k)
+        (record { key = ha; listed = ma; high = ahead-upto (key-in-span hb) (key-in-span ha) (key-in-span hk) .high; weighs = record { vertex-is = refl; weight-is = hm } })
+        (record { key = hb; listed = mb; high = ahead-upto (key-in-span ha) (key-in-span hb) (key-in-span hk) .high; weighs = record { vertex-is = refl; weight-is = hn } })
+        (record { key = ha; listed = ma; high = record { le = tt }; weighs = exactly a 0 })
+        (cert 3 0 (λ v w p. # 0 ≺ aheadᴱ v w w ⟹ # 0 ≺ aheadᴱ w v p ⊕ aheadᴱ v w p ⊕ # 0 ∵ hyp 0) tt (pt (pointOf a)) (pt (pointOf b)) (pt (pointOf k)) apart)
+        (cert 3 0 (λ v w p. signedAreaᴱ v w p ≐ # 0 ⟹ aheadᴱ w v p ⊗ fromᴱ p v .0 ⊕ aheadᴱ v w p ⊗ fromᴱ p w .0 ⊕ # 0 ⊗ fromᴱ p v .0 ≐ # 0 ∵ eqn 0 (w .1 ⊖ v .1)) tt
+        (pt (pointOf a)) (pt (pointOf b)) (pt (pointOf k)) e)
+        (cert 3 0 (λ v w p. signedAreaᴱ v w p ≐ # 0 ⟹ aheadᴱ w v p ⊗ fromᴱ p v .1 ⊕ aheadᴱ v w p ⊗ fromᴱ p w .1 ⊕ # 0 ⊗ fromᴱ p v .1 ≐ # 0 ∵ eqn 0 (⊝ (w .0 ⊖ v .0))) tt
+        (pt (pointOf a)) (pt (pointOf b)) (pt (pointOf k)) e)
+
     pub balance-between : (m n : ℕ) → pos m ≡ ahead (pointOf b) (pointOf a) (pointOf k) → pos n ≡ ahead (pointOf a) (pointOf b) (pointOf k)
         → BalanceOf (a ∷ b ∷ []) k (Triangle (weighted a m) (weighted b n) (weighted a 0))
     balance-between m n hm hn =
         record {
-          says = λ qs P.
-              let ma = first (P .only-extreme) .listed in
-              let mb = first (rest (P .only-extreme)) .listed in
-              balances (pointOf k)
-              (record { key = ha; listed = ma; high = ahead-upto (key-in-span hb) (key-in-span ha) (key-in-span hk) .high; weighs = record { vertex-is = refl; weight-is = hm } })
-              (record { key = hb; listed = mb; high = ahead-upto (key-in-span ha) (key-in-span hb) (key-in-span hk) .high; weighs = record { vertex-is = refl; weight-is = hn } })
-              (record { key = ha; listed = ma; high = record { le = tt }; weighs = exactly a 0 })
-              (cert 3 0 (λ v w p. # 0 ≺ aheadᴱ v w w ⟹ # 0 ≺ aheadᴱ w v p ⊕ aheadᴱ v w p ⊕ # 0 ∵ hyp 0) tt (pt (pointOf a)) (pt (pointOf b)) (pt (pointOf k))
-              (apart-length (pointOf a) (pointOf b) (λ z. P .once-each .0 (here z))))
-              (cert 3 0 (λ v w p. signedAreaᴱ v w p ≐ # 0 ⟹ aheadᴱ w v p ⊗ fromᴱ p v .0 ⊕ aheadᴱ v w p ⊗ fromᴱ p w .0 ⊕ # 0 ⊗ fromᴱ p v .0 ≐ # 0 ∵ eqn 0 (w .1 ⊖ v .1)) tt
-              (pt (pointOf a)) (pt (pointOf b)) (pt (pointOf k)) e)
-              (cert 3 0 (λ v w p. signedAreaᴱ v w p ≐ # 0 ⟹ aheadᴱ w v p ⊗ fromᴱ p v .1 ⊕ aheadᴱ v w p ⊗ fromᴱ p w .1 ⊕ # 0 ⊗ fromᴱ p v .1 ≐ # 0 ∵ eqn 0 (⊝ (w .0 ⊖ v .0))) tt
-              (pt (pointOf a)) (pt (pointOf b)) (pt (pointOf k)) e);
+          says = λ qs P. between-balances m n (first (P .only-extreme) .listed) (first (rest (P .only-extreme)) .listed)
+              (apart-length (pointOf a) (pointOf b) (λ z. P .once-each .0 (here z))) hm hn;
         }
+
+-- ---- a triangle: each vertex is weighed by the area of the other two and the plug
+
+pub triangle-balances : {qs : List Point} (f a b k : ℕ) → Key f → Key a → Key b → Key k → pointOf f ∈ qs → pointOf a ∈ qs → pointOf b ∈ qs
+    → signedArea (pointOf a) (pointOf b) (pointOf f) <ℤ pos 0 → {u v w : Weighted}
+    → Weighs f (signedArea (pointOf b) (pointOf a) (pointOf k)) u → Weighs a (signedArea (pointOf f) (pointOf b) (pointOf k)) v
+    → Weighs b (signedArea (pointOf a) (pointOf f) (pointOf k)) w → Balances qs (pointOf k) (u ∷ v ∷ w ∷ [])
+triangle-balances f a b k kf ka kb kk mf ma mb strict hu hv hw =
+    let sf = key-in-span kf in
+    let sa = key-in-span ka in
+    let sb = key-in-span kb in
+    let sp = key-in-span kk in
+    balances (pointOf k)
+    (record { key = kf; listed = mf; high = area-upto sb sa sp .high; weighs = hu })
+    (record { key = ka; listed = ma; high = area-upto sf sb sp .high; weighs = hv })
+    (record { key = kb; listed = mb; high = area-upto sa sf sp .high; weighs = hw })
+    (cert 4 0 (λ p f a b. signedAreaᴱ a b f ≺ # 0 ⟹ # 0 ≺ signedAreaᴱ b a p ⊕ signedAreaᴱ f b p ⊕ signedAreaᴱ a f p ∵ hyp 0) tt
+    (pt (pointOf k)) (pt (pointOf f)) (pt (pointOf a)) (pt (pointOf b)) strict)
+    (ring 4 0 (λ p f a b. signedAreaᴱ b a p ⊗ fromᴱ p f .0 ⊕ signedAreaᴱ f b p ⊗ fromᴱ p a .0 ⊕ signedAreaᴱ a f p ⊗ fromᴱ p b .0 ≐ # 0) tt
+    (pt (pointOf k)) (pt (pointOf f)) (pt (pointOf a)) (pt (pointOf b)))
+    (ring 4 0 (λ p f a b. signedAreaᴱ b a p ⊗ fromᴱ p f .1 ⊕ signedAreaᴱ f b p ⊗ fromᴱ p a .1 ⊕ signedAreaᴱ a f p ⊗ fromᴱ p b .1 ≐ # 0) tt
+    (pt (pointOf k)) (pt (pointOf f)) (pt (pointOf a)) (pt (pointOf b)))
 
 -- ---- a slice of keys
 
@@ -174,24 +197,9 @@ module _ {ks : List ℕ} {k : ℕ} (g : Keys ks k) where
       → Weighs (getD ks (i + 1) 0) (signedArea (vertexAt ks i) (vertexAt ks 0) (pointOf k)) w → BalanceOf ks k (Triangle u v w)
   balance-by-triangle i h u v w hu hv hw =
       let l = h .within in
-      let kf = key-at 0 (omega arith) in
-      let ka = key-at i (omega arith) in
-      let kb = key-at (i + 1) (h .within) in
-      let sf = key-in-span kf in
-      let sa = key-in-span ka in
-      let sb = key-in-span kb in
-      let sp = key-in-span (g .plug) in
       record {
-        says = λ qs P. balances (pointOf k)
-            (record { key = kf; listed = listed ks P 0 (omega arith); high = area-upto sb sa sp .high; weighs = hu })
-            (record { key = ka; listed = listed ks P i (omega arith); high = area-upto sf sb sp .high; weighs = hv })
-            (record { key = kb; listed = listed ks P (i + 1) (h .within); high = area-upto sa sf sp .high; weighs = hw })
-            (cert 4 0 (λ p f a b. signedAreaᴱ a b f ≺ # 0 ⟹ # 0 ≺ signedAreaᴱ b a p ⊕ signedAreaᴱ f b p ⊕ signedAreaᴱ a f p ∵ hyp 0) tt
-            (pt (pointOf k)) (pt (vertexAt ks 0)) (pt (vertexAt ks i)) (pt (vertexAt ks (i + 1))) (first-strict ks P i (h .later) (h .within)))
-            (ring 4 0 (λ p f a b. signedAreaᴱ b a p ⊗ fromᴱ p f .0 ⊕ signedAreaᴱ f b p ⊗ fromᴱ p a .0 ⊕ signedAreaᴱ a f p ⊗ fromᴱ p b .0 ≐ # 0) tt
-            (pt (pointOf k)) (pt (vertexAt ks 0)) (pt (vertexAt ks i)) (pt (vertexAt ks (i + 1))))
-            (ring 4 0 (λ p f a b. signedAreaᴱ b a p ⊗ fromᴱ p f .1 ⊕ signedAreaᴱ f b p ⊗ fromᴱ p a .1 ⊕ signedAreaᴱ a f p ⊗ fromᴱ p b .1 ≐ # 0) tt
-            (pt (pointOf k)) (pt (vertexAt ks 0)) (pt (vertexAt ks i)) (pt (vertexAt ks (i + 1))));
+        says = λ qs P. triangle-balances (getD ks 0 0) (getD ks i 0) (getD ks (i + 1) 0) k (key-at 0 (omega arith)) (key-at i (omega arith)) (key-at (i + 1) (h .within)) (g .plug)
+            (listed ks P 0 (omega arith)) (listed ks P i (omega arith)) (listed ks P (i + 1) (h .within)) (first-strict ks P i (h .later) (h .within)) hu hv hw;
       }
 
 -- ---- for callers

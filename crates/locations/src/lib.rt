@@ -69,7 +69,7 @@ fn north_between(a: u32, b: u32) -> i32
 }
 
 // The outward direction of the side from a to b.
-fn outward(a: u32, b: u32) -> Support
+pub fn outward(a: u32, b: u32) -> Support
     requires { ⌜ Key a × Key b ⌝ }
     ensures { λ r. ⌜ r ≡ Support.Direction (out-east (pointOf a) (pointOf b)) (out-north (pointOf a) (pointOf b)) ⌝ }
 {
@@ -142,7 +142,7 @@ pub fn support_of(vertices: &[u32], plug: u32) -> Support
 }
 
 // How far c lies ahead of a on the way to b: the dot product of the vectors from a to the two.
-fn distance_ahead(a: u32, b: u32, c: u32) -> i32
+pub fn distance_ahead(a: u32, b: u32, c: u32) -> i32
     requires { ⌜ Key a × Key b × Key c ⌝ }
     ensures { λ r. ⌜ r ≡ ahead (pointOf a) (pointOf b) (pointOf c) ⌝ }
 {
@@ -201,7 +201,7 @@ fn balance_in_line(a: u32, b: u32, plug: u32) -> Balance
 }
 
 // A vertex of a triangle, with the area of the other two and the plug for its weight.
-fn weight_over(vertex: u32, a: u32, b: u32, plug: u32) -> Weighted
+pub fn weight_over(vertex: u32, a: u32, b: u32, plug: u32) -> Weighted
     requires { ⌜ Key a × Key b × Key plug ⌝ }
     requires { ⌜ pos 0 ≤ℤ signedArea (pointOf a) (pointOf b) (pointOf plug) ⌝ }
     ensures { λ w. ⌜ Weighs vertex (signedArea (pointOf a) (pointOf b) (pointOf plug)) w ⌝ }

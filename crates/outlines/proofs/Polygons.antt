@@ -18,7 +18,7 @@ use Rattle.rounds.specs.Boxes.{boxesOf, allCorners}
 use Rattle.rounds.specs.declared.Corner.the-variants.{SouthWest, SouthEast, NorthEast, NorthWest}
 use Rattle.outlines.specs.Corners.{KeysOf}
 use Rattle.outlines.specs.Outlines.{PolygonKeys}
-use Rattle.outlines.proofs.Filling.{corners-length}
+use Rattle.corners.proofs.Edges.{corners-length}
 
 -- four corners for each box of a list of fours
 pub all-length : (l : List ℤ) → length l % 4 ≡ 0 → length (allCorners (boxesOf l)) ≡ length l

@@ -5,33 +5,9 @@ ghost use Prim.Native.Nat.{_+_, _/_, _≤_};
 ghost use lib.ListN.{length};
 ghost use Rattle.rounds.specs.Boxes.{boxesOf, cornersOf, allCorners};
 ghost use Rattle.rounds.specs.Refusals.{none, boxListFault};
-ghost use Rattle.outlines.specs.Corners.{eastOffset, northOffset, KeysOf};
+ghost use Rattle.outlines.specs.Corners.{KeysOf};
 ghost use Rattle.outlines.specs.Outlines.{Room, PolygonKeys};
 use rounds::Corner;
-
-// Where a corner's east stands among the four edges of a box.
-fn east_offset(corner: Corner) -> usize
-    ensures { λ r. ⌜ r ≡ eastOffset corner ⌝ }
-{
-    match corner {
-        Corner::SouthWest => 0,
-        Corner::SouthEast => 2,
-        Corner::NorthEast => 2,
-        Corner::NorthWest => 0,
-    }
-}
-
-// Where a corner's north stands among the four edges of a box.
-fn north_offset(corner: Corner) -> usize
-    ensures { λ r. ⌜ r ≡ northOffset corner ⌝ }
-{
-    match corner {
-        Corner::SouthWest => 1,
-        Corner::SouthEast => 1,
-        Corner::NorthEast => 3,
-        Corner::NorthWest => 3,
-    }
-}
 
 // Writes the keys of that one corner of every box to the front of keys.
 fn put_corner_keys(boxes: &[i32], corner: Corner, keys: &mut [u32])
@@ -39,13 +15,10 @@ fn put_corner_keys(boxes: &[i32], corner: Corner, keys: &mut [u32])
     requires { ⌜ length (now boxes) / 4 ≤ length (now keys) ⌝ }
     ensures { λ _. ⌜ KeysOf (cornersOf corner (boxesOf (now (boxes .entry)))) (now (keys .exit)) ⌝ }
 {
-    let e = east_offset(corner);
-    let n = north_offset(corner);
     let count = boxes.len() / 4;
     let mut k: usize = 0;
     while k < count {
-        let at = k * 4;
-        keys[k] = turns::key_of(boxes[at + e], boxes[at + n]);
+        keys[k] = corners::corner_key(boxes, k, corner);
         k += 1;
     }
 }

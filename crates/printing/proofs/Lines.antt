@@ -11,7 +11,7 @@ use Rattle.rounds.specs.Boxes.{Box, Ordered, plugsOf}
 use Rattle.rounds.specs.Replies.{Reply, result, refused}
 use Rattle.rounds.specs.Words.{Word, inside, outside, undecided}
 use Rattle.rounds.proofs.Rows.{plugAt}
-use Rattle.verdicts.specs.Places.{FivePolygons}
+use Rattle.words.specs.Words.{FivePolygons}
 use Rattle.verdicts.specs.Verdicts.{wordReply}
 use Rattle.verdicts.specs.declared.PlugWord.{PlugWord}
 use Rattle.printing.specs.Decimals.{decimal}

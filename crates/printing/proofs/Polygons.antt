@@ -4,15 +4,26 @@ use mathlib.Core.List.{List}
 use Prim.Native.Nat.{ℕ, _/_, _≤_}
 use native.Mathlib.Omega.{arith}
 use lib.IntN.{ℤ}
-use lib.ListN.{length}
+use lib.ListN.{length, take}
+use lib.Seq.{length-take-le}
+use Rattle.plane.specs.Points.{Point}
+use Rattle.turns.specs.Keys.{Key}
 use Rattle.rounds.specs.Boxes.{boxesOf, cornersOf, allCorners}
 use Rattle.rounds.specs.Refusals.{none, boxListFault}
 use Rattle.rounds.specs.declared.Corner.{Corner}
 use Rattle.rounds.proofs.Accepted.{accepted}
 use Rattle.outlines.specs.Outlines.{PolygonKeys}
-use Rattle.outlines.proofs.Filling.{corners-length}
+use Rattle.locations.specs.Answers.{Keys}
+use Rattle.corners.proofs.Edges.{corners-length}
 use Rattle.outlines.proofs.Polygons.{all-length}
-use Rattle.verdicts.proofs.Placing.{listed-fits}
+
+-- the vertices that were listed have room, where the points have
+listed-fits : {qs : List Point} {vs : List ℕ} {n : ℕ} (m : ℕ) → PolygonKeys qs vs n → length qs ≤ m → m ≤ length vs → n ≤ length vs
+listed-fits {qs} {vs} {n} m h a b = omega (arith, h .few)
+
+-- and are keys
+pub listed-keys : {qs : List Point} {vs : List ℕ} {n k : ℕ} → PolygonKeys qs vs n → n ≤ length vs → Key k → Keys (take n vs) k
+listed-keys {qs} {vs} {n} {k} h r p = record { some = omega (arith, h .some, length-take-le n vs r); vertices = h .keys; plug = p }
 
 module _ (boxes : List ℤ) (e : boxListFault boxes ≡ none) where
   -- 1,024 boxes at most

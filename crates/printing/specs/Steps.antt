@@ -9,12 +9,12 @@ use Rattle.plane.specs.Members.{All}
 use Rattle.rounds.specs.Boxes.{Box, Ordered, boxesOf, plugsOf}
 use Rattle.rounds.specs.Refusals.{boxListFault}
 use Rattle.turns.specs.Keys.{Key}
-use Rattle.verdicts.specs.Places.{FiveKeys, FivePolygons}
+use Rattle.words.specs.Words.{FiveKeys, FivePolygons}
 use Rattle.verdicts.specs.Verdicts.{wordReply}
 use Rattle.verdicts.specs.declared.PlugWord.{PlugWord}
 use Rattle.printing.specs.Text.{plugReply, plugLines, textUnder, Wrote}
 
--- what `locate` asks of the polygons' vertices, for any plug
+-- what `word_in` asks of the polygons' vertices, for any plug
 pub record AnyPlug (outer sw se ne nw : List ℕ) : Type 0 where
   pub keys : (k : ℕ) → Key k → FiveKeys outer sw se ne nw k
 

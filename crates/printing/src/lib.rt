@@ -5,8 +5,8 @@ use files::Reading;
 use rounds::Checked;
 use rounds::Corner;
 use rounds::Refusal;
-use verdicts::Place;
 use verdicts::PlugWord;
+use words::Word;
 ghost use Prim.Native.Nat.{_+_, _*_, _/_, _≤_};
 ghost use mathlib.Core.Path.{_≡_};
 ghost use mathlib.Core.List.{_++_};
@@ -126,11 +126,11 @@ fn word_by(
     if let Checked::Refused(refusal) = checked {
         return PlugWord::Refused(refusal);
     }
-    let place = verdicts::locate(outer, sw, se, ne, nw, turns::key_of(east, north));
-    match place {
-        Place::Within => PlugWord::Inside,
-        Place::Off => PlugWord::Outside,
-        Place::Between(_, _, _, _) => PlugWord::Undecided,
+    let word = words::word_in(outer, sw, se, ne, nw, turns::key_of(east, north));
+    match word {
+        Word::Inside => PlugWord::Inside,
+        Word::Outside => PlugWord::Outside,
+        Word::Undecided => PlugWord::Undecided,
     }
 }
 

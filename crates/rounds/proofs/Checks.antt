@@ -151,7 +151,10 @@ pub second-yes : (bs : List Box) (p : Point) (es : List Entry) → T (allb (λ e
     → T (sameZ (weighted (λ v. v .north) (map (λ e. e .weight) es) (map (λ e. from 1 p (cornerAt 1 bs e)) es)) (pos 0)) → SecondReason bs p es
 second-yes bs p es n w e f =
     record {
-      named = all-yes (λ e. leb 1 (e .box) && leb (e .box) (length bs)) (λ e s. (leb→le 1 (e .box) (and-l (leb 1 (e .box)) (leb (e .box) (length bs)) s), leb→le (e .box) (length bs) (and-r (leb 1 (e .box)) (leb (e .box) (length bs)) s))) es n;
+      named = all-yes (λ e. leb 1 (e .box) && leb (e .box) (length bs)) (λ e s. (
+        leb→le 1 (e .box) (and-l (leb 1 (e .box)) (leb (e .box) (length bs)) s),
+        leb→le (e .box) (length bs) (and-r (leb 1 (e .box)) (leb (e .box) (length bs)) s),
+      )) es n;
       some-weight = ltb→lt 0 (total (map (λ e. e .weight) es)) w;
       east-sum = sameZ-yes (weighted (λ v. v .east) (map (λ e. e .weight) es) (map (λ e. from 1 p (cornerAt 1 bs e)) es)) (pos 0) e;
       north-sum = sameZ-yes (weighted (λ v. v .north) (map (λ e. e .weight) es) (map (λ e. from 1 p (cornerAt 1 bs e)) es)) (pos 0) f;

@@ -24,6 +24,13 @@ use Rattle.rounds.specs.Words.{FirstSucceeds, Means, inside, outside}
 use Rattle.rounds.specs.declared.Corner.{Corner}
 use Rattle.rounds.specs.declared.Corner.the-variants.{SouthWest, SouthEast, NorthEast, NorthWest}
 
+-- four corners, case by case
+pub by-corner : (P : Corner → Type 0) → P SouthWest → P SouthEast → P NorthEast → P NorthWest → (c : Corner) → P c
+by-corner P sw se ne nw SouthWest = sw
+by-corner P sw se ne nw SouthEast = se
+by-corner P sw se ne nw NorthEast = ne
+by-corner P sw se ne nw NorthWest = nw
+
 -- the corner of a box that lies least far along (a, b), and the one that lies farthest
 abbrev pub lowest : ℤ → ℤ → Corner
 lowest (pos a) (pos b) = SouthWest

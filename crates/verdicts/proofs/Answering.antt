@@ -1,7 +1,7 @@
 -- From where a plug lies to its verdict: the reasons hold, and the word is the only one. Demand 3, of the calls' own promise. Assumes nothing.
-use mathlib.Core.Path.{_≡_, refl, sym, _∙_, ap, ap₂, subst, subst₂}
+use mathlib.Core.Path.{_≡_, refl, sym, _∙_, ap, ap₂, subst}
 use mathlib.Core.Logic.{_↔_}
-use mathlib.Core.List.{List, [], _∷_, map}
+use mathlib.Core.List.{List, [], _∷_}
 use Prim.Native.Nat.{ℕ, _+_, _<_, _≤_}
 use native.Mathlib.Omega.{arith}
 use lib.IntN.{ℤ, pos, _+ℤ_, _*ℤ_}
@@ -73,7 +73,8 @@ reasoned bs p d a b c r l h f =
     term g w e k = ap₂ (λ n q. pos n *ℤ g (from 1 p q)) (k .weighs) (k .names)
 
     same-sum : (g : Point → ℤ)
-        → pos (r .first .weight) *ℤ g (from 1 p (cornerAt 1 bs (entryOf (r .first)))) +ℤ (pos (r .second .weight) *ℤ g (from 1 p (cornerAt 1 bs (entryOf (r .second)))) +ℤ (pos (r .third .weight) *ℤ g (from 1 p (cornerAt 1 bs (entryOf (r .third)))) +ℤ pos 0))
+        → pos (r .first .weight) *ℤ g (from 1 p (cornerAt 1 bs (entryOf (r .first))))
+        +ℤ (pos (r .second .weight) *ℤ g (from 1 p (cornerAt 1 bs (entryOf (r .second)))) +ℤ (pos (r .third .weight) *ℤ g (from 1 p (cornerAt 1 bs (entryOf (r .third)))) +ℤ pos 0))
         ≡ pos (a .weight) *ℤ g (from 1 p (pointOf (a .vertex))) +ℤ (pos (b .weight) *ℤ g (from 1 p (pointOf (b .vertex))) +ℤ (pos (c .weight) *ℤ g (from 1 p (pointOf (c .vertex))) +ℤ pos 0))
     same-sum g = ap₂ (λ x y. x +ℤ y) (term g a (r .first) (f .of-a)) (ap₂ (λ x y. x +ℤ y) (term g b (r .second) (f .of-b)) (ap (λ x. x +ℤ pos 0) (term g c (r .third) (f .of-c))))
 

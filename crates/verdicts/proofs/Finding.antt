@@ -23,13 +23,6 @@ use Rattle.rounds.proofs.Rows.{boxAt, boxes-length, boxes-at}
 use Rattle.verdicts.specs.Entries.{SamePoint, FoundIn}
 use Rattle.verdicts.specs.declared.Found.{Found}
 
--- four corners, case by case
-pub by-corner : (P : Corner → Type 0) → P SouthWest → P SouthEast → P NorthEast → P NorthWest → (c : Corner) → P c
-by-corner P sw se ne nw SouthWest = sw
-by-corner P sw se ne nw SouthEast = se
-by-corner P sw se ne nw NorthEast = ne
-by-corner P sw se ne nw NorthWest = nw
-
 -- the corner that an entry names, by the box's place from 0
 pub corner-at-place : (z : Box) (n : ℕ) (bs : List Box) (k w : ℕ) (c : Corner) → k < length bs
     → cornerAt n bs (record { box = n + k; corner = c; weight = w }) ≡ cornerOf c (getD bs k z)
@@ -45,7 +38,8 @@ corner-at-place z n (b ∷ bs) (suc k) w c h = go (test n (n + suc k)) (rest (om
         → cornerAt (suc n) bs (record { box = n + suc k; corner = c; weight = w }) ≡ cornerOf c (getD bs k z)
     rest e r = ap (λ m. cornerAt (suc n) bs (record { box = m; corner = c; weight = w })) e ∙ r
 
-    go : {t : Bool} → Test n (n + suc k) t → cornerAt (suc n) bs (record { box = n + suc k; corner = c; weight = w }) ≡ cornerOf c (getD bs k z) → cond t (cornerOf c b) (cornerAt (suc n) bs (record { box = n + suc k; corner = c; weight = w })) ≡ cornerOf c (getD bs k z)
+    go : {t : Bool} → Test n (n + suc k) t → cornerAt (suc n) bs (record { box = n + suc k; corner = c; weight = w }) ≡ cornerOf c (getD bs k z)
+        → cond t (cornerOf c b) (cornerAt (suc n) bs (record { box = n + suc k; corner = c; weight = w })) ≡ cornerOf c (getD bs k z)
     go (equal e) r = absurd (omega arith)
     go (unequal e) r = r
 

@@ -1,6 +1,6 @@
 -- The verdict:
 --     Finding     the box and the corner of a vertex
---     Placing     from the five polygons to the boxes
+--     Placing     from the cones to the boxes
 --     Answering   from a place to the verdict: demand 3
 --     Stars       document 01's starred examples, as one joint fact about the definitions
 pub mod Finding

@@ -1,7 +1,7 @@
 -- The verdict on a plug: the mission's third demand, with its reasons. Definitions only.
 use mathlib.Core.Path.{_≡_}
-use mathlib.Core.List.{List, [], _∷_, map}
-use Prim.Native.Nat.{ℕ, _≤_}
+use mathlib.Core.List.{List, [], _∷_}
+use Prim.Native.Nat.{_≤_}
 use lib.IntN.{ℤ}
 use Rattle.integers.specs.Upto.{Upto}
 use Rattle.plane.specs.Points.{Point}

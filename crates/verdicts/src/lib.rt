@@ -1,8 +1,6 @@
 // The verdict on a plug, with its reasons.
 ghost use mathlib.Core.List.{[], _∷_};
 ghost use mathlib.Core.Path.{_≡_};
-ghost use Prim.Native.Nat.{_/_};
-ghost use lib.ListN.{length};
 ghost use Rattle.plane.specs.Members.{All, _∈_};
 ghost use Rattle.plane.specs.Points.{point};
 ghost use Rattle.turns.specs.Keys.{Key, pointOf};
@@ -10,7 +8,7 @@ ghost use Rattle.rounds.specs.Boxes.{box, boxesOf, allCorners};
 ghost use Rattle.rounds.specs.Refusals.{none, faultOf, boxListFault, verdictFault};
 ghost use Rattle.locations.specs.Answers.{Member};
 ghost use Rattle.verdicts.specs.Entries.{SamePoint, FoundIn, EntryFor, ReasonsFor};
-ghost use Rattle.verdicts.specs.Places.{FiveKeys, PlaceOf, FiveRoom, PlaceSays};
+ghost use Rattle.verdicts.specs.Places.{LeanSays, PlaceSays};
 ghost use Rattle.verdicts.specs.Verdicts.{VerdictIs, wordReply, verdictOn};
 use locations::Balance;
 use locations::Support;
@@ -57,16 +55,22 @@ pub enum PlugWord {
     Refused(Refusal),
 }
 
-// Where a plug lies with respect to the polygons of some boxes: within all four corner polygons, off the outer polygon, or between, by a
-// direction and three weighted vertices of the outer polygon.
-pub enum Place {
+// What one corner of every box tells the first driver: the plug is strictly inside their hull; or a direction shows that it is not.
+enum Lean {
+    Nowhere,
+    Toward(Direction),
+}
+
+// Where a plug lies with respect to some boxes: strictly inside the hull of each of the four corners, off the hull of all corners, or between, by a direction and
+// three weighted corners.
+enum Place {
     Within,
     Off,
     Between(Direction, Weighted, Weighted, Weighted),
 }
 
 // Which corner of a box a point is.
-pub enum Found {
+enum Found {
     At(Corner),
     Nowhere,
 }
@@ -128,66 +132,45 @@ fn entry_of(boxes: &[i32], vertex: u32, weight: u32) -> Entry
     }
 }
 
-// Where a plug lies with respect to the outer polygon and the four corner polygons of some boxes.
-pub fn locate(outer: &[u32], sw: &[u32], se: &[u32], ne: &[u32], nw: &[u32], plug: u32) -> Place
-    requires { ⌜ FiveKeys (now outer) (now sw) (now se) (now ne) (now nw) plug ⌝ }
-    ensures { λ r. ⌜ PlaceOf (now (outer .entry)) (now (sw .entry)) (now (se .entry)) (now (ne .entry)) (now (nw .entry)) plug r ⌝ }
+// Whether that one corner of every box leaves the plug not strictly inside, and by which direction.
+fn lean_at(boxes: &[i32], corner: Corner, plug: u32) -> Lean
+    requires { ⌜ (boxListFault (now boxes) ≡ none) × Key plug ⌝ }
+    ensures { λ r. ⌜ LeanSays (boxesOf (now (boxes .entry))) (pointOf plug) corner r ⌝ }
 {
-    let balance = locations::balance_of(outer, plug);
+    match cones::support_of(boxes, corner, plug) {
+        Support::Surrounded => Lean::Nowhere,
+        Support::Direction(east, north) => Lean::Toward(Direction {
+            corner,
+            east,
+            north,
+        }),
+    }
+}
+
+// Where a plug lies with respect to accepted boxes: off all corners' hull, or else by the first corner that leaves it not strictly inside.
+fn place_of(boxes: &[i32], plug: u32) -> Place
+    requires { ⌜ (boxListFault (now boxes) ≡ none) × Key plug ⌝ }
+    ensures { λ r. ⌜ PlaceSays (boxesOf (now (boxes .entry))) (pointOf plug) r ⌝ }
+{
+    let balance = cones::balance_of(boxes, plug);
     let Balance::Triangle(a, b, c) = balance else {
         return Place::Off;
     };
-    let by_sw = locations::support_of(sw, plug);
-    if let Support::Direction(east, north) = by_sw {
-        return Place::Between(
-            Direction {
-                corner: Corner::SouthWest,
-                east,
-                north,
-            },
-            a,
-            b,
-            c,
-        );
+    let sw = lean_at(boxes, Corner::SouthWest, plug);
+    if let Lean::Toward(direction) = sw {
+        return Place::Between(direction, a, b, c);
     }
-    let by_se = locations::support_of(se, plug);
-    if let Support::Direction(east, north) = by_se {
-        return Place::Between(
-            Direction {
-                corner: Corner::SouthEast,
-                east,
-                north,
-            },
-            a,
-            b,
-            c,
-        );
+    let se = lean_at(boxes, Corner::SouthEast, plug);
+    if let Lean::Toward(direction) = se {
+        return Place::Between(direction, a, b, c);
     }
-    let by_ne = locations::support_of(ne, plug);
-    if let Support::Direction(east, north) = by_ne {
-        return Place::Between(
-            Direction {
-                corner: Corner::NorthEast,
-                east,
-                north,
-            },
-            a,
-            b,
-            c,
-        );
+    let ne = lean_at(boxes, Corner::NorthEast, plug);
+    if let Lean::Toward(direction) = ne {
+        return Place::Between(direction, a, b, c);
     }
-    let by_nw = locations::support_of(nw, plug);
-    if let Support::Direction(east, north) = by_nw {
-        return Place::Between(
-            Direction {
-                corner: Corner::NorthWest,
-                east,
-                north,
-            },
-            a,
-            b,
-            c,
-        );
+    let nw = lean_at(boxes, Corner::NorthWest, plug);
+    if let Lean::Toward(direction) = nw {
+        return Place::Between(direction, a, b, c);
     }
     Place::Within
 }
@@ -206,57 +189,6 @@ fn reasons_of(boxes: &[i32], direction: Direction, a: Weighted, b: Weighted, c: 
         second,
         third,
     }
-}
-
-// Where a plug lies with respect to the polygons of accepted boxes, in lent room for their vertices. What the room holds is lost.
-fn place_in(
-    boxes: &[i32],
-    plug: u32,
-    outer: &mut [u32],
-    sw: &mut [u32],
-    se: &mut [u32],
-    ne: &mut [u32],
-    nw: &mut [u32],
-) -> Place
-    requires { ⌜ (boxListFault (now boxes) ≡ none) × Key plug ⌝ }
-    requires { ⌜ FiveRoom (length (now boxes) / 4) (now outer) (now sw) (now se) (now ne) (now nw) ⌝ }
-    ensures { λ r. ⌜ PlaceSays (boxesOf (now (boxes .entry))) (pointOf plug) r ⌝ }
-{
-    let o = outlines::outer_polygon(boxes, outer);
-    let a = outlines::corner_polygon(boxes, Corner::SouthWest, sw);
-    let b = outlines::corner_polygon(boxes, Corner::SouthEast, se);
-    let c = outlines::corner_polygon(boxes, Corner::NorthEast, ne);
-    let d = outlines::corner_polygon(boxes, Corner::NorthWest, nw);
-    locate(&outer[..o], &sw[..a], &se[..b], &ne[..c], &nw[..d], plug)
-}
-
-// Where a plug lies with respect to the polygons of accepted boxes: small room for few of them.
-fn place_of(boxes: &[i32], plug: u32) -> Place
-    requires { ⌜ (boxListFault (now boxes) ≡ none) × Key plug ⌝ }
-    ensures { λ r. ⌜ PlaceSays (boxesOf (now (boxes .entry))) (pointOf plug) r ⌝ }
-{
-    if boxes.len() <= 128 {
-        let mut outer = [0u32; 128];
-        let mut sw = [0u32; 32];
-        let mut se = [0u32; 32];
-        let mut ne = [0u32; 32];
-        let mut nw = [0u32; 32];
-        return place_in(boxes, plug, &mut outer, &mut sw, &mut se, &mut ne, &mut nw);
-    }
-    if boxes.len() <= 1024 {
-        let mut outer = [0u32; 1024];
-        let mut sw = [0u32; 256];
-        let mut se = [0u32; 256];
-        let mut ne = [0u32; 256];
-        let mut nw = [0u32; 256];
-        return place_in(boxes, plug, &mut outer, &mut sw, &mut se, &mut ne, &mut nw);
-    }
-    let mut outer = [0u32; 4096];
-    let mut sw = [0u32; 1024];
-    let mut se = [0u32; 1024];
-    let mut ne = [0u32; 1024];
-    let mut nw = [0u32; 1024];
-    place_in(boxes, plug, &mut outer, &mut sw, &mut se, &mut ne, &mut nw)
 }
 
 // The boxes, then the plug with place 1.

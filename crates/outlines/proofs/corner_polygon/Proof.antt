@@ -6,9 +6,6 @@ use lib.ListN.{length}
 use Rattle.rounds.proofs.Accepted.{accepted}
 use Rattle.outlines.proofs.corner_polygon.Statement.{statement}
 use Rattle.outlines.proofs.corner_polygon.Tie as tie
-use Rattle.outlines.proofs.corner_polygon.Reads as reads
-use Rattle.outlines.proofs.corner_polygon.Lts as lts
-use Rattle.outlines.proofs.corner_polygon_in.Reads as corner-polygon-in-reads
 
 slice-aggregate-corner-polygon-in : tie.Need-slice-aggregate-corner-polygon-in
 slice-aggregate-corner-polygon-in c = search needs

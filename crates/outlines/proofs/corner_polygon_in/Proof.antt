@@ -7,7 +7,7 @@ use lib.ListN.{length, take}
 use lib.Seq.{length-take-le}
 use Rattle.rounds.specs.Boxes.{boxesOf, cornersOf}
 use Rattle.rounds.proofs.Accepted.{accepted}
-use Rattle.outlines.proofs.Filling.{corners-length}
+use Rattle.corners.proofs.Edges.{corners-length}
 use Rattle.outlines.proofs.Polygons.{front-keys, front-polygon}
 use Rattle.outlines.proofs.corner_polygon_in.Statement.{statement}
 use Rattle.outlines.proofs.corner_polygon_in.Tie as tie

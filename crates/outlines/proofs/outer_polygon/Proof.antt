@@ -1,14 +1,11 @@
 -- `outlines::outer_polygon` meets its contract: scratch for 32 boxes, for 256 or for 1,024 is enough for as many. Assumes nothing.
-use Prim.Native.Nat.{_/_, _≤_}
+use Prim.Native.Nat.{_≤_}
 use native.Mathlib.Omega.{arith}
 use borrow.Author.Needs.{needs}
 use lib.ListN.{length}
 use Rattle.rounds.proofs.Accepted.{accepted}
 use Rattle.outlines.proofs.outer_polygon.Statement.{statement}
 use Rattle.outlines.proofs.outer_polygon.Tie as tie
-use Rattle.outlines.proofs.outer_polygon.Reads as reads
-use Rattle.outlines.proofs.outer_polygon.Lts as lts
-use Rattle.outlines.proofs.outer_polygon_in.Reads as outer-polygon-in-reads
 
 slice-aggregate-outer-polygon-in : tie.Need-slice-aggregate-outer-polygon-in
 slice-aggregate-outer-polygon-in c = search needs

@@ -1,4 +1,4 @@
--- `printing::word_by` meets its contract: the plug's refusal, or the word of its place (proofs/Answers.antt). Assumes nothing.
+-- `printing::word_by` meets its contract: the plug's refusal, or its word against the polygons (proofs/Answers.antt). Assumes nothing.
 use mathlib.Core.Path.{_≡_, sym, _∙_, ap}
 use borrow.Author.Needs.{needs}
 use mir.Syntax.{w32}
@@ -8,8 +8,8 @@ use Rattle.turns.specs.Keys.{pointOf}
 use Rattle.rounds.specs.Refusals.{none, faultOf, plugFault}
 use Rattle.rounds.specs.Replies.{result}
 use Rattle.rounds.proofs.Accepted.{plug-accepted}
-use Rattle.verdicts.proofs.Answering.{placeWord}
-use Rattle.printing.proofs.Answers.{word-refused, word-placed}
+use Rattle.words.specs.Words.{wordFor}
+use Rattle.printing.proofs.Answers.{word-refused, word-told}
 use Rattle.printing.proofs.word_by.Statement.{statement}
 use Rattle.printing.proofs.word_by.Tie as tie
 
@@ -46,8 +46,8 @@ key-of-requires c κs =
     let s = c .before .before .before .before .before .before .before .before in
     rw (toZ-ofZ w32 _ (s .fits .east), toZ-ofZ w32 _ (s .fits .north)) (plug-accepted 1 (plug s) (is-accepted c))
 
-locate-requires : tie.Need-locate-requires
-locate-requires c κs =
+word-in-requires : tie.Need-word-in-requires
+word-in-requires c κs =
     let s = c .before .before .before .before .before .before .before .before .before in
     s .pre .keys (c .key-of .result) (c .key-of .ensures .key)
 
@@ -63,17 +63,17 @@ enum-told-4 c = search needs
 returns-2 : tie.Need-returns-2
 returns-2 c =
     let d = c .before .before in
-    word-placed _ _ _ _ _ _ (is-accepted (d .before .before)) (is-plug (d .before)) (d .locate .ensures) (ap (λ r. result (placeWord r)) (c .enum-told2 .given .1))
+    word-told _ _ _ _ _ _ (is-accepted (d .before .before)) (is-plug (d .before)) (d .word-in .ensures) (ap (λ r. result (wordFor r)) (c .enum-told2 .given .1))
 
 returns-3 : tie.Need-returns-3
 returns-3 c =
     let d = c .before .before in
-    word-placed _ _ _ _ _ _ (is-accepted (d .before .before)) (is-plug (d .before)) (d .locate .ensures) (ap (λ r. result (placeWord r)) (c .enum-told3 .given .1))
+    word-told _ _ _ _ _ _ (is-accepted (d .before .before)) (is-plug (d .before)) (d .word-in .ensures) (ap (λ r. result (wordFor r)) (c .enum-told3 .given .1))
 
 returns-4 : tie.Need-returns-4
 returns-4 c =
     let d = c .before .before in
-    word-placed _ _ _ _ _ _ (is-accepted (d .before .before)) (is-plug (d .before)) (d .locate .ensures) (ap (λ r. result (placeWord r)) (c .enum-told4 .given .1))
+    word-told _ _ _ _ _ _ (is-accepted (d .before .before)) (is-plug (d .before)) (d .word-in .ensures) (ap (λ r. result (wordFor r)) (c .enum-told4 .given .1))
 
 pub word-by-spec : {M : Type 1} → statement M
 word-by-spec =
@@ -84,7 +84,7 @@ word-by-spec =
     returns
     enum-told
     key-of-requires
-    locate-requires
+    word-in-requires
     enum-told-2
     enum-told-3
     enum-told-4

@@ -6,8 +6,7 @@ use lib.ListN.{length}
 use lib.Seq.{length-take-le}
 use Rattle.rounds.specs.declared.Corner.the-variants.{SouthWest, SouthEast, NorthEast, NorthWest}
 use Rattle.rounds.proofs.Accepted.{accepted}
-use Rattle.verdicts.proofs.Placing.{listed-keys}
-use Rattle.printing.proofs.Polygons.{few-corners, few-edges, outer-fits, corner-fits}
+use Rattle.printing.proofs.Polygons.{listed-keys, few-corners, few-edges, outer-fits, corner-fits}
 use Rattle.printing.proofs.write_plugs.Statement.{statement}
 use Rattle.printing.proofs.write_plugs.Tie as tie
 

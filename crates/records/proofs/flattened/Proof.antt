@@ -28,7 +28,8 @@ use contract.Monad.{Fun, fact}
 use contract.Running.{givenOf, tables, tablesOf}
 use types.Kit.{Given, Item, Sq, runs, anyQ, atRet, ‵, raw, _⊛_, some, later, ⋆, _$_, _∵_, !, qed, by, move, keep, drop, use0, use1, use2, use3, split, join, pick, rewrite, fsplit, fjoin, suffices, frame, await, done}
 use types.Part.{whole, sub, look-in, rep}
-use types.Run.{look, look-raw, store, init, forget, stop, hop, fld, from, load, lit, of-opd, bin, addr, assigns, assigns-last, and-then, no-more, land, first, blocks, stays, leaves-loop, returns, enter, alloc1, alloc0, params1, pass1, pass0, free1, free0, exec, well-typed, Below, again, loops}
+use types.Run.{look, look-raw, store, init, forget, stop, hop, fld, from, load, lit, of-opd, bin, addr, assigns, assigns-last, and-then, no-more, land}
+use types.Run.{first, blocks, stays, leaves-loop, returns, enter, alloc1, alloc0, params1, pass1, pass0, free1, free0, exec, well-typed, Below, again, loops}
 use types.SemTy.{Body}
 use types.Share.{arr-parts}
 use types.Tokens.{lft-new, lft-end}

@@ -5,10 +5,6 @@ use Rattle.plane.specs.Points.{point}
 use Rattle.rounds.specs.Refusals.{faultOf, _orElse_, plugFault, verdictFault}
 use Rattle.verdicts.proofs.check.Statement.{statement}
 use Rattle.verdicts.proofs.check.Tie as tie
-use Rattle.verdicts.proofs.check.Reads as reads
-use Rattle.verdicts.proofs.check.Lts as lts
-use Rattle.rounds.proofs.check_boxes.Reads as check-boxes-reads
-use Rattle.rounds.proofs.check_plug.Reads as check-plug-reads
 
 check-boxes-requires : tie.Need-check-boxes-requires
 check-boxes-requires c κs = search needs

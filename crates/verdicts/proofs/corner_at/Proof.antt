@@ -4,7 +4,8 @@ use borrow.Author.Needs.{needs}
 use Rattle.plane.specs.Points.{point}
 use Rattle.rounds.specs.Boxes.{box, cornerOf}
 use Rattle.verdicts.specs.Entries.{SamePoint}
-use Rattle.verdicts.proofs.Finding.{by-corner, same-read}
+use Rattle.rounds.proofs.Corners.{by-corner}
+use Rattle.verdicts.proofs.Finding.{same-read}
 use Rattle.verdicts.proofs.corner_at.Statement.{statement}
 use Rattle.verdicts.proofs.corner_at.Tie as tie
 
@@ -15,10 +16,12 @@ test-1 c = let s = c .before in same-read (s .fits .west) (s .fits .south) (s .f
 test-2 : (c : tie.After-is-same2) → SamePoint (point (c .before .before .before .args .east) (c .before .before .before .args .south)) (point (c .before .before .before .args .e) (c .before .before .before .args .n)) (c .is-same2 .result)
 test-2 c = let s = c .before .before .before in same-read (s .fits .east) (s .fits .south) (s .fits .e) (s .fits .n) (c .is-same2 .ensures)
 
-test-3 : (c : tie.After-is-same3) → SamePoint (point (c .before .before .before .before .before .args .east) (c .before .before .before .before .before .args .north)) (point (c .before .before .before .before .before .args .e) (c .before .before .before .before .before .args .n)) (c .is-same3 .result)
+test-3 : (c : tie.After-is-same3) → let s = c .before .before .before .before .before in
+    SamePoint (point (s .args .east) (s .args .north)) (point (s .args .e) (s .args .n)) (c .is-same3 .result)
 test-3 c = let s = c .before .before .before .before .before in same-read (s .fits .east) (s .fits .north) (s .fits .e) (s .fits .n) (c .is-same3 .ensures)
 
-test-4 : (c : tie.After-is-same4) → SamePoint (point (c .before .before .before .before .before .before .before .args .west) (c .before .before .before .before .before .before .before .args .north)) (point (c .before .before .before .before .before .before .before .args .e) (c .before .before .before .before .before .before .before .args .n)) (c .is-same4 .result)
+test-4 : (c : tie.After-is-same4) → let s = c .before .before .before .before .before .before .before in
+    SamePoint (point (s .args .west) (s .args .north)) (point (s .args .e) (s .args .n)) (c .is-same4 .result)
 test-4 c = let s = c .before .before .before .before .before .before .before in same-read (s .fits .west) (s .fits .north) (s .fits .e) (s .fits .n) (c .is-same4 .ensures)
 
 is-same-requires : tie.Need-is-same-requires

@@ -1,7 +1,7 @@
 -- `verdicts::entry_of` meets its contract. The invariant: no corner of the first k boxes is the vertex. Assumes nothing.
 use mathlib.Core.Path.{_≡_, refl, _∙_, ap₂, subst}
 use mathlib.Core.List.{List}
-use Prim.Native.Nat.{ℕ, _+_, _*_, _/_, _-_, _≤_}
+use Prim.Native.Nat.{ℕ, _*_, _/_, _-_, _≤_}
 use native.Mathlib.Omega.{arith}
 use borrow.Author.Needs.{needs}
 use lib.IntN.{ℤ}
@@ -17,11 +17,6 @@ use Rattle.verdicts.specs.Entries.{FoundIn}
 use Rattle.verdicts.proofs.Finding.{Passed, passed-none, passed-more, passed-all, names-box, found-read}
 use Rattle.verdicts.proofs.entry_of.Statement.{statement}
 use Rattle.verdicts.proofs.entry_of.Tie as tie
-use Rattle.verdicts.proofs.entry_of.Reads as reads
-use Rattle.verdicts.proofs.entry_of.Lts as lts
-use Rattle.turns.proofs.east_of.Reads as east-of-reads
-use Rattle.turns.proofs.north_of.Reads as north-of-reads
-use Rattle.verdicts.proofs.corner_at.Reads as corner-at-reads
 
 abbrev Inv-loop : tie.InvT-loop
 Inv-loop boxes vertex weight e n count k₀ k = (k ≤ length boxes / 4) × (point (toZ w32 e) (toZ w32 n) ≡ pointOf vertex) × Passed boxes (pointOf vertex) k

@@ -1,113 +1,139 @@
--- `verdicts::place_of` meets its contract: room for 32 boxes, for 256 or for 1,024 is enough for as many. Assumes nothing.
-use Prim.Native.Nat.{ℕ, _*_, _/_, _≤_}
-use native.Mathlib.Omega.{arith}
+-- `verdicts::place_of` meets its contract: by what the cones on the way say. Assumes nothing.
+use mathlib.Core.Path.{subst}
+use mathlib.Core.List.{List, map}
+use Rattle.plane.specs.Points.{Point}
+use Rattle.plane.specs.Vectors.{from, Supported}
+use Rattle.turns.specs.Keys.{pointOf}
+use Rattle.rounds.specs.Boxes.{Box, boxesOf, cornersOf, allCorners}
+use Rattle.rounds.specs.declared.Corner.the-variants.{SouthWest, SouthEast, NorthEast, NorthWest}
+use Rattle.rounds.proofs.Corners.{by-corner, inside-by-corners, outside-by-corners}
+use Rattle.locations.specs.Answers.{BalanceSays}
+use Rattle.locations.specs.declared.Balance.the-variants.{Triangle}
+use Rattle.verdicts.specs.Places.{LeanSays}
 use borrow.Author.Needs.{needs}
-use lib.ListN.{length}
-use Rattle.rounds.proofs.Accepted.{accepted}
 use Rattle.verdicts.proofs.place_of.Statement.{statement}
 use Rattle.verdicts.proofs.place_of.Tie as tie
-use Rattle.verdicts.proofs.place_of.Reads as reads
-use Rattle.verdicts.proofs.place_of.Lts as lts
-use Rattle.verdicts.proofs.place_in.Reads as place-in-reads
 
--- four times as many
-four : {m n : ℕ} → m ≤ n → 4 * m ≤ 4 * n
-four h = omega arith
+-- the boxes and the plug
+module _ (s : tie.Start) where
+  abbrev bs : List Box
+  bs = boxesOf (s .args .boxes .now)
 
-slice-aggregate-place-in : tie.Need-slice-aggregate-place-in
-slice-aggregate-place-in c = search needs
+  abbrev p : Point
+  p = pointOf (s .args .plug)
 
-slice-aggregate-place-in-2 : tie.Need-slice-aggregate-place-in-2
-slice-aggregate-place-in-2 c = search needs
+-- where the plug is in the hull of all corners, three balance
+module _ (c : tie.After-known-told) where
+  abbrev begun : tie.Start
+  begun = c .before .before .before .before
 
-slice-aggregate-place-in-3 : tie.Need-slice-aggregate-place-in-3
-slice-aggregate-place-in-3 c = search needs
+  balanced : BalanceSays (allCorners (bs begun)) (p begun) (Triangle (c .before .balance .given .0 .0) (c .before .balance .given .0 .1 .0) (c .before .balance .given .0 .1 .1 .0))
+  balanced = subst (BalanceSays (allCorners (bs begun)) (p begun)) (c .before .balance .given .1) (c .before .before .before .balance-of .ensures)
 
-slice-aggregate-place-in-4 : tie.Need-slice-aggregate-place-in-4
-slice-aggregate-place-in-4 c = search needs
+balance-of-requires : tie.Need-balance-of-requires
+balance-of-requires c κs = search needs
 
-slice-aggregate-place-in-5 : tie.Need-slice-aggregate-place-in-5
-slice-aggregate-place-in-5 c = search needs
+enum-known-balance : tie.Need-enum-known-balance
+enum-known-balance c = search needs
 
-place-in-requires : tie.Need-place-in-requires
-place-in-requires c κs =
-    let s = c .before .before .before .before .before .before in
-    let few : length (s .args .boxes .now) / 4 ≤ 32 = omega (arith, c .before .before .before .before .before .if1 .taken) in
-    (s .pre, record { in-outer = four few; in-sw = few; in-se = few; in-ne = few; in-nw = few })
+enum-told : tie.Need-enum-told
+enum-told c = search needs
 
 returns : tie.Need-returns
-returns c = search needs
+returns c =
+    let d = c .before .before in
+    outside-by-corners (p (d .before)) (subst (BalanceSays (allCorners (bs (d .before))) (p (d .before))) (c .enum-told .given .1) (d .balance-of .ensures))
 
-slice-aggregate-place-in-6 : tie.Need-slice-aggregate-place-in-6
-slice-aggregate-place-in-6 c = search needs
+lean-at-requires : tie.Need-lean-at-requires
+lean-at-requires c κs = search needs
 
-slice-aggregate-place-in-7 : tie.Need-slice-aggregate-place-in-7
-slice-aggregate-place-in-7 c = search needs
-
-slice-aggregate-place-in-8 : tie.Need-slice-aggregate-place-in-8
-slice-aggregate-place-in-8 c = search needs
-
-slice-aggregate-place-in-9 : tie.Need-slice-aggregate-place-in-9
-slice-aggregate-place-in-9 c = search needs
-
-slice-aggregate-place-in-10 : tie.Need-slice-aggregate-place-in-10
-slice-aggregate-place-in-10 c = search needs
-
-place-in-requires-2 : tie.Need-place-in-requires-2
-place-in-requires-2 c κs =
-    let s = c .before .before .before .before .before .before .before in
-    let few : length (s .args .boxes .now) / 4 ≤ 256 = omega (arith, c .before .before .before .before .before .if2 .taken) in
-    (s .pre, record { in-outer = four few; in-sw = few; in-se = few; in-ne = few; in-nw = few })
+enum-known-sw : tie.Need-enum-known-sw
+enum-known-sw c = search needs
 
 returns-2 : tie.Need-returns-2
-returns-2 c = search needs
+returns-2 c =
+    let d = c .before .before .before .before in
+    (subst (LeanSays (bs (begun d)) (p (begun d)) SouthWest) (c .before .sw .given .1) (c .before .before .before .lean-at .ensures), balanced d)
 
-slice-aggregate-place-in-11 : tie.Need-slice-aggregate-place-in-11
-slice-aggregate-place-in-11 c = search needs
+enum-told-2 : tie.Need-enum-told-2
+enum-told-2 c = search needs
 
-slice-aggregate-place-in-12 : tie.Need-slice-aggregate-place-in-12
-slice-aggregate-place-in-12 c = search needs
+lean-at-requires-2 : tie.Need-lean-at-requires-2
+lean-at-requires-2 c κs = search needs
 
-slice-aggregate-place-in-13 : tie.Need-slice-aggregate-place-in-13
-slice-aggregate-place-in-13 c = search needs
-
-slice-aggregate-place-in-14 : tie.Need-slice-aggregate-place-in-14
-slice-aggregate-place-in-14 c = search needs
-
-slice-aggregate-place-in-15 : tie.Need-slice-aggregate-place-in-15
-slice-aggregate-place-in-15 c = search needs
-
-place-in-requires-3 : tie.Need-place-in-requires-3
-place-in-requires-3 c κs =
-    let s = c .before .before .before .before .before .before .before in
-    let few = accepted (s .args .boxes .now) (s .pre .0) .few in
-    (s .pre, record { in-outer = four few; in-sw = few; in-se = few; in-ne = few; in-nw = few })
+enum-known-se : tie.Need-enum-known-se
+enum-known-se c = search needs
 
 returns-3 : tie.Need-returns-3
-returns-3 c = search needs
+returns-3 c =
+    let d = c .before .before .before .before .before .before .before in
+    (subst (LeanSays (bs (begun d)) (p (begun d)) SouthEast) (c .before .se .given .1) (c .before .before .before .lean-at2 .ensures), balanced d)
+
+enum-told-3 : tie.Need-enum-told-3
+enum-told-3 c = search needs
+
+lean-at-requires-3 : tie.Need-lean-at-requires-3
+lean-at-requires-3 c κs = search needs
+
+enum-known-ne : tie.Need-enum-known-ne
+enum-known-ne c = search needs
+
+returns-4 : tie.Need-returns-4
+returns-4 c =
+    let d = c .before .before .before .before .before .before .before .before .before .before in
+    (subst (LeanSays (bs (begun d)) (p (begun d)) NorthEast) (c .before .ne .given .1) (c .before .before .before .lean-at3 .ensures), balanced d)
+
+enum-told-4 : tie.Need-enum-told-4
+enum-told-4 c = search needs
+
+lean-at-requires-4 : tie.Need-lean-at-requires-4
+lean-at-requires-4 c κs = search needs
+
+enum-known-nw : tie.Need-enum-known-nw
+enum-known-nw c = search needs
+
+returns-5 : tie.Need-returns-5
+returns-5 c =
+    let d = c .before .before .before .before .before .before .before .before .before .before .before .before .before in
+    (subst (LeanSays (bs (begun d)) (p (begun d)) NorthWest) (c .before .nw .given .1) (c .before .before .before .lean-at4 .ensures), balanced d)
+
+enum-told-5 : tie.Need-enum-told-5
+enum-told-5 c = search needs
+
+returns-6 : tie.Need-returns-6
+returns-6 c =
+    let ne = c .before .before .before in
+    let se = ne .before .before .before in
+    let sw = se .before .before .before in
+    let s = begun (sw .before .before .before) in
+    inside-by-corners (p s) (by-corner (λ k. Supported (map (from 1 (p s)) (cornersOf k (bs s))) → ⊥)
+    (subst (LeanSays (bs s) (p s) SouthWest) (sw .enum-told2 .given .1) (sw .before .before .lean-at .ensures))
+    (subst (LeanSays (bs s) (p s) SouthEast) (se .enum-told3 .given .1) (se .before .before .lean-at2 .ensures))
+    (subst (LeanSays (bs s) (p s) NorthEast) (ne .enum-told4 .given .1) (ne .before .before .lean-at3 .ensures))
+    (subst (LeanSays (bs s) (p s) NorthWest) (c .enum-told5 .given .1) (c .before .before .lean-at4 .ensures)))
 
 pub place-of-spec : {M : Type 1} → statement M
 place-of-spec =
     tie.close
     (tie.spec
-    slice-aggregate-place-in
-    slice-aggregate-place-in-2
-    slice-aggregate-place-in-3
-    slice-aggregate-place-in-4
-    slice-aggregate-place-in-5
-    place-in-requires
+    balance-of-requires
+    enum-known-balance
+    enum-told
     returns
-    slice-aggregate-place-in-6
-    slice-aggregate-place-in-7
-    slice-aggregate-place-in-8
-    slice-aggregate-place-in-9
-    slice-aggregate-place-in-10
-    place-in-requires-2
+    lean-at-requires
+    enum-known-sw
     returns-2
-    slice-aggregate-place-in-11
-    slice-aggregate-place-in-12
-    slice-aggregate-place-in-13
-    slice-aggregate-place-in-14
-    slice-aggregate-place-in-15
-    place-in-requires-3
-    returns-3)
+    enum-told-2
+    lean-at-requires-2
+    enum-known-se
+    returns-3
+    enum-told-3
+    lean-at-requires-3
+    enum-known-ne
+    returns-4
+    enum-told-4
+    lean-at-requires-4
+    enum-known-nw
+    returns-5
+    enum-told-5
+    returns-6)

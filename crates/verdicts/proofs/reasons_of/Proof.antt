@@ -3,9 +3,6 @@ use borrow.Author.Needs.{needs}
 use Rattle.plane.proofs.Lists.{first, rest}
 use Rattle.verdicts.proofs.reasons_of.Statement.{statement}
 use Rattle.verdicts.proofs.reasons_of.Tie as tie
-use Rattle.verdicts.proofs.reasons_of.Reads as reads
-use Rattle.verdicts.proofs.reasons_of.Lts as lts
-use Rattle.verdicts.proofs.entry_of.Reads as entry-of-reads
 
 entry-of-requires : tie.Need-entry-of-requires
 entry-of-requires c κs = let m = first (c .pre) in (m .key, m .listed)

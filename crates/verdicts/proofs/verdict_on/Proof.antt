@@ -1,5 +1,5 @@
 -- `verdicts::verdict_on` meets its contract: the word of the plug's place, and the reasons that it gives (proofs/Answering.antt). Assumes nothing.
-use mathlib.Core.Path.{_≡_, refl, sym, _∙_, ap, subst}
+use mathlib.Core.Path.{_≡_, sym, _∙_, ap, subst}
 use Prim.Native.Nat.{ℕ}
 use native.Mathlib.Omega.{arith}
 use borrow.Author.Needs.{needs}
@@ -13,19 +13,12 @@ use Rattle.rounds.specs.Replies.{result}
 use Rattle.verdicts.specs.Places.{PlaceSays}
 use Rattle.verdicts.specs.Verdicts.{verdictOn, Reasoned}
 use Rattle.verdicts.specs.declared.Reasons.{Reasons}
-use Rattle.verdicts.specs.declared.Verdict.{Verdict}
 use Rattle.verdicts.specs.declared.Verdict.the-variants.{Undecided}
 use Rattle.verdicts.specs.declared.Place.the-variants.{Between}
 use Rattle.rounds.proofs.Accepted.{plug-accepted}
 use Rattle.verdicts.proofs.Answering.{verdict-accepted, placeWord, verdict-placed, refused-reply, reasoned}
 use Rattle.verdicts.proofs.verdict_on.Statement.{statement}
 use Rattle.verdicts.proofs.verdict_on.Tie as tie
-use Rattle.verdicts.proofs.verdict_on.Reads as reads
-use Rattle.verdicts.proofs.verdict_on.Lts as lts
-use Rattle.turns.proofs.key_of.Reads as key-of-reads
-use Rattle.verdicts.proofs.check.Reads as check-reads
-use Rattle.verdicts.proofs.place_of.Reads as place-of-reads
-use Rattle.verdicts.proofs.reasons_of.Reads as reasons-of-reads
 
 undecided-inj : {r s : Reasons} → Undecided r ≡ Undecided s → r ≡ s
 undecided-inj e = cc
@@ -43,11 +36,13 @@ is-plug : (c : tie.After-key-of) → pointOf (c .key-of .result) ≡ point (c .b
 is-plug c = c .key-of .ensures .is ∙ search needs
 
 -- so the reply is the word of the plug's place
-is-placed : (c : tie.After-place-of) → result (placeWord (c .place-of .result)) ≡ verdictOn (c .before .before .before .before .before .args .boxes .now) (point (c .before .before .before .before .before .args .east) (c .before .before .before .before .before .args .north))
+is-placed : (c : tie.After-place-of) → let s = c .before .before .before .before .before in
+    result (placeWord (c .place-of .result)) ≡ verdictOn (s .args .boxes .now) (point (s .args .east) (s .args .north))
 is-placed c = verdict-placed _ _ (c .before .key-of .result) (c .place-of .result) (is-accepted (c .before .before)) (is-plug (c .before)) (c .place-of .ensures)
 
 -- a plug between has a direction and three balanced corners
-is-between : (c : tie.After-place) → PlaceSays (boxesOf (c .before .before .before .before .before .before .before .args .boxes .now)) (point (c .before .before .before .before .before .before .before .args .east) (c .before .before .before .before .before .before .before .args .north)) (Between (c .place .given .0 .0) (c .place .given .0 .1 .0) (c .place .given .0 .1 .1 .0) (c .place .given .0 .1 .1 .1 .0))
+is-between : (c : tie.After-place) → let s = c .before .before .before .before .before .before .before in
+    PlaceSays (boxesOf (s .args .boxes .now)) (point (s .args .east) (s .args .north)) (Between (c .place .given .0 .0) (c .place .given .0 .1 .0) (c .place .given .0 .1 .1 .0) (c .place .given .0 .1 .1 .1 .0))
 is-between c =
     let d = c .before .before in
     let s = d .before .before .before .before .before in
@@ -111,7 +106,8 @@ returns-4 c =
     let s = d .before .before .before .before .before .before .before in
     record {
       reply = ap (λ r. result (placeWord r)) (sym (d .place .given .1)) ∙ is-placed (d .before .before);
-      reasons = λ r e. subst (Reasoned (boxesOf (s .args .boxes .now)) (point (s .args .east) (s .args .north))) (undecided-inj e) (reasoned _ _ (g .0) (g .1 .0) (g .1 .1 .0) (g .1 .1 .1 .0) (c .reasons-of .result) (is-between d .0) (is-between d .1) (c .reasons-of .ensures));
+      reasons = λ r e. subst (Reasoned (boxesOf (s .args .boxes .now)) (point (s .args .east) (s .args .north))) (undecided-inj e)
+          (reasoned _ _ (g .0) (g .1 .0) (g .1 .1 .0) (g .1 .1 .1 .0) (c .reasons-of .result) (is-between d .0) (is-between d .1) (c .reasons-of .ensures));
     }
 
 pub verdict-on-spec : {M : Type 1} → statement M

@@ -1,7 +1,5 @@
 -- `verdicts::word_on` meets its contract: the word of the plug's place. Assumes nothing.
-use mathlib.Core.Path.{_≡_, refl, sym, _∙_, ap, subst}
-use Prim.Native.Nat.{ℕ}
-use native.Mathlib.Omega.{arith}
+use mathlib.Core.Path.{_≡_, sym, _∙_, ap}
 use borrow.Author.Needs.{needs}
 use mir.Syntax.{w32}
 use mir.ValLaws.{toZ-ofZ}
@@ -14,11 +12,6 @@ use Rattle.rounds.proofs.Accepted.{plug-accepted}
 use Rattle.verdicts.proofs.Answering.{verdict-accepted, placeWord, verdict-placed, refused-reply}
 use Rattle.verdicts.proofs.word_on.Statement.{statement}
 use Rattle.verdicts.proofs.word_on.Tie as tie
-use Rattle.verdicts.proofs.word_on.Reads as reads
-use Rattle.verdicts.proofs.word_on.Lts as lts
-use Rattle.turns.proofs.key_of.Reads as key-of-reads
-use Rattle.verdicts.proofs.check.Reads as check-reads
-use Rattle.verdicts.proofs.place_of.Reads as place-of-reads
 
 -- what the check says of the plug itself
 is-checked : (c : tie.After-check) → faultOf (c .check .result) ≡ verdictFault (c .before .args .boxes .now) (point (c .before .args .east) (c .before .args .north))
@@ -33,7 +26,8 @@ is-plug : (c : tie.After-key-of) → pointOf (c .key-of .result) ≡ point (c .b
 is-plug c = c .key-of .ensures .is ∙ search needs
 
 -- so the reply is the word of the plug's place
-is-placed : (c : tie.After-place-of) → result (placeWord (c .place-of .result)) ≡ verdictOn (c .before .before .before .before .before .args .boxes .now) (point (c .before .before .before .before .before .args .east) (c .before .before .before .before .before .args .north))
+is-placed : (c : tie.After-place-of) → let s = c .before .before .before .before .before in
+    result (placeWord (c .place-of .result)) ≡ verdictOn (s .args .boxes .now) (point (s .args .east) (s .args .north))
 is-placed c = verdict-placed _ _ (c .before .key-of .result) (c .place-of .result) (is-accepted (c .before .before)) (is-plug (c .before)) (c .place-of .ensures)
 
 check-requires : tie.Need-check-requires
