@@ -45,12 +45,12 @@ flat-plugs [] h = refl
 flat-plugs (e ∷ []) h = absurd (omega arith)
 flat-plugs (e ∷ n ∷ l) h = ap (λ l. e ∷ n ∷ l) (flat-plugs l (omega arith))
 
-boxes-flat : (bs : List Box) → boxesOf (flatMap edges bs) ≡ bs
+pub boxes-flat : (bs : List Box) → boxesOf (flatMap edges bs) ≡ bs
 unfolding flatMap
 boxes-flat [] = refl
 boxes-flat (b ∷ bs) = ap (λ l. b ∷ l) (boxes-flat bs)
 
-plugs-flat : (ps : List Point) → plugsOf (flatMap coordinates ps) ≡ ps
+pub plugs-flat : (ps : List Point) → plugsOf (flatMap coordinates ps) ≡ ps
 unfolding flatMap
 plugs-flat [] = refl
 plugs-flat (p ∷ ps) = ap (λ l. p ∷ l) (plugs-flat ps)

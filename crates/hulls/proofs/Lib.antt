@@ -4,7 +4,10 @@
 --     Chaining   how one more key changes an upper chain
 --     Fan        the vertices of a chain, seen from its first
 --     Mirroring  keys reflected through the middle of the plane
+--     Framing    keys after a first and before a last
 --     Halving    keys split by a line: the upper chain of a half is that of all
+--     Joining    two parts of keys sorted at once
+--     Parting    the two parts of keys, in order, as the chains take them
 --     Listing    the two chains make a closed listing, by index
 --     Outlines   a closed listing is an outline of the keys' points
 --     Dropping   keys that are dropped before sorting
@@ -13,7 +16,10 @@ pub mod Turning
 pub mod Chaining
 pub mod Fan
 pub mod Mirroring
+pub mod Framing
 pub mod Halving
+pub mod Joining
+pub mod Parting
 pub mod Listing
 pub mod Outlines
 pub mod Dropping

@@ -13,10 +13,10 @@ use Rattle.sorting.specs.Order.{Sorted, Within}
 use Rattle.sorting.proofs.Pigeons.{within-few}
 use Rattle.turns.specs.Keys.{Key}
 use Rattle.hulls.specs.Chains.{Keys, turn, Chain}
-use Rattle.hulls.specs.Mirrors.{flip, Mirrors}
+use Rattle.hulls.specs.Mirrors.{flip}
 use Rattle.hulls.proofs.Turning.{cyclic-<, turn-end, not-both, around, around-last}
 use Rattle.hulls.proofs.Fan.{rises, fan}
-use Rattle.hulls.proofs.Mirroring.{flip-less, flip-turn, mirror-keys, mirror-back}
+use Rattle.hulls.proofs.Mirroring.{Mirrors, flip-less, flip-turn, mirror-keys, mirror-back}
 
 -- j′ is the vertex after j, of h: after the last comes the first
 pub data Next (h j j′ : ℕ) : Type 0 where

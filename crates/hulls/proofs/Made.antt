@@ -2,32 +2,36 @@
 use mathlib.Core.Path.{_≡_, refl, sym, ap, _∙_, subst}
 use mathlib.Core.Logic.{_⊎_, inl, inr, ⊎-elim}
 use Prim.Native.Nat.{ℕ, suc, _+_, _-_, _/_, _%_, _≤_, _<_}
-use native.Mathlib.Decide.{decLt}
 use native.Mathlib.Omega.{arith}
 use mathlib.Core.List.{List, map}
 use lib.Dec.{lt→ltb}
 use lib.IntN.{pos}
-use lib.Signed.{_<ℤ_}
+use lib.Signed.{_≤ℤ_, _<ℤ_}
 use lib.ListN.{length, take}
 use lib.Seq.{length-take-le, getD-take}
 use Rattle.integers.proofs.Expr.{_⊖_, #_, _≺_, _⟹_}
-use Rattle.integers.proofs.Order.{<→≤}
 use Rattle.integers.proofs.Lin.{lin}
 use Rattle.plane.specs.Points.{Point}
 use Rattle.plane.specs.Members.{_∈_}
 use Rattle.plane.proofs.Outline.{outline-polygon}
 use Rattle.plane.proofs.Dropping.{Inner as InnerPoint, same-polygon}
 use Rattle.turns.specs.Keys.{pointOf}
-use Rattle.sorting.specs.Order.{get, Sorted, Rising, Within}
-use Rattle.sorting.proofs.Front.{rising-front, front-within}
-use Rattle.hulls.specs.Chains.{Keys, Chain}
-use Rattle.hulls.specs.Mirrors.{flip, Mirrors, Appended}
-use Rattle.hulls.specs.Halves.{Halves}
+use Rattle.sorting.specs.Order.{get, Sorted, Within}
+use Rattle.sorting.specs.Count.{SortedOf}
+use Rattle.sorting.proofs.Counting.{within, same-sym}
+use Rattle.sorting.proofs.Passes.{rearranged-length}
+use Rattle.sorting.proofs.Digits.{passes, rearranged-passes, sorted-passes}
+use Rattle.sorting.proofs.Front.{front-within}
+use Rattle.hulls.specs.Chains.{Keys, turn, Chain}
+use Rattle.hulls.specs.Mirrors.{flip, Appended}
+use Rattle.hulls.specs.Halves.{EndsOf, Part, Halves, Reordered, framed}
 use Rattle.hulls.specs.Inner.{Among, Inner, Outer}
 use Rattle.hulls.specs.Hulls.{Least, Hull}
 use Rattle.hulls.proofs.Chaining.{among, chain-keys}
-use Rattle.hulls.proofs.Mirroring.{mirror-keys, mirror-rising}
-use Rattle.hulls.proofs.Halving.{half-imp, widen, mirror-sorted, mirror-half}
+use Rattle.hulls.proofs.Turning.{turn-over}
+use Rattle.hulls.proofs.Mirroring.{Mirrors, key-most, flip-less, flip-turn, mirror-keys, mirror-sorted}
+use Rattle.hulls.proofs.Halving.{Half, Left, Right, NotLeft, NotRight, widen}
+use Rattle.hulls.proofs.Parting.{sorted-front, part-front, first-key, last-key, upper-amid, lower-amid, half-of}
 use Rattle.hulls.proofs.Listing.{Closed, closed-few, single-key, closed-is, sides-few}
 use Rattle.hulls.proofs.Outlines.{closed-outline, point-in, from-point, within-points}
 use Rattle.hulls.proofs.Dropping.{front-rest}
@@ -104,99 +108,127 @@ left-hull old new n l o =
     let e = length-take-le n new l in
     outer-hull (omega (arith, o .few)) (front-within new n l (o .kept)) (front-rest old new n l o)
 
--- ---- the first n numbers of a list, as a callee sees them
+-- ---- the whole: the two parts of the keys, u of them in up and v in down; both in order, in up′ and down′; the two chains, of ku vertices in old and kl in l
 
-chain-front : (l : List ℕ) (n : ℕ) {s : ℕ → ℕ} {k : ℕ} → n ≤ length l → Chain (get (take n l)) (length (take n l)) s k → Chain (get l) n s k
-chain-front l n {s} {k} h c =
-    let e = length-take-le n l h in
-    record {
-      some = c .some;
-      few = omega (arith, c .few);
-      first = c .first ∙ getD-take n l 0 0 (omega (arith, c .some, c .few));
-      last = λ i j a b. c .last i j (omega arith) b ∙ getD-take n l i 0 (omega arith);
-      from = λ j o. let r = c .from j o in let x : r .0 < n = omega (arith, r .1) in (r .0, x, r .2 ∙ getD-take n l (r .0) 0 x);
-      rising = c .rising;
-      bends = c .bends;
-      right = λ i j o w. rw (← getD-take n l i 0 o) (c .right i j (omega arith) w);
-    }
+module _ (keys up down up′ down′ old l : List ℕ) (first last u v ku kl : ℕ) (ks : Keys (get keys) (length keys)) (h : first < last) (ends : EndsOf keys first last)
+    (hs : Halves keys first last up down u v) (ru : Reordered up up′ u) (rv : Reordered down down′ v) (room : u ≤ length up′) (room′ : v ≤ length down′)
+    (cu : Chain (framed first (take u up′) last) (length (take u up′) + 2) (get old) ku)
+    (cl : Chain (framed (flip last) (take v down′) (flip first)) (length (take v down′) + 2) (get l) kl) where
+  -- all keys in order
+  abbrev all : List ℕ
+  all = passes keys
 
-mirrors-front : (l : List ℕ) (n : ℕ) {f : ℕ → ℕ} → n ≤ length l → Mirrors (get (take n l)) (length (take n l)) f → Mirrors (get l) n f
-mirrors-front l n h m =
-    let e = length-take-le n l h in
-    record { is = λ i j k. m .is i j (omega arith) ∙ ap flip (getD-take n l j 0 (omega arith)) }
+  sorted-all : SortedOf keys all
+  sorted-all = sorted-passes keys (λ i o. let k = key-most (ks .key i o) in omega arith)
 
--- ---- the whole: keys in order, and their halves, u of them in up and v in down; the reflected v, in f; the two chains, of ku vertices in old and kl in l
+  many : length all ≡ length keys
+  many = rearranged-length (rearranged-passes keys)
 
-module _ (keys up down f old l : List ℕ) (u v ku kl : ℕ) (srt : Sorted (get keys) 0 (length keys)) (ks : Keys (get keys) (length keys))
-    (ends : get keys 0 < get keys (length keys - 1)) (hs : Halves keys up down u v) (room : u ≤ length up) (room′ : v ≤ length down) (room″ : v ≤ length f)
-    (cu : Chain (get (take u up)) (length (take u up)) (get old) ku) (mi : Mirrors (get (take v down)) (length (take v down)) (get f))
-    (cl : Chain (get (take v f)) (length (take v f)) (get l) kl) where
-  -- the reflected keys
-  all : ℕ → ℕ
-  all i = flip (get keys (length keys - suc i))
+  inward : Within (get all) (length all) (get keys) (length keys)
+  inward = within (sorted-all .same)
 
-  mirrored : Mirrors (get keys) (length keys) all
-  unfolding all
-  mirrored = record { is = λ i j e. let z : length keys - suc i ≡ j = omega arith in rw z refl }
+  outward : Within (get keys) (length keys) (get all) (length all)
+  outward = within (same-sym (sorted-all .same))
+
+  keys-all : Keys (get all) (length all)
+  keys-all = among ks inward
+
+  first-is : get all 0 ≡ first
+  first-is =
+      let r = inward .find 0 (omega (arith, many, hs .few)) in
+      let s = ends .first-in in
+      let t = outward .find (s .0) (s .1) in
+      omega (arith, r .2, ends .least (r .0) (r .1), s .2, t .2, sorted-all .sorted .le 0 (t .0) (omega arith) (omega arith) (t .1))
+
+  last-is : get all (length all - 1) ≡ last
+  last-is =
+      let r = inward .find (length all - 1) (omega (arith, many, hs .few)) in
+      let s = ends .last-in in
+      let t = outward .find (s .0) (s .1) in
+      let o : t .0 < length all = t .1 in
+      omega (arith, r .2, ends .most (r .0) (r .1), s .2, t .2, sorted-all .sorted .le (t .0) (length all - 1) (omega arith) (omega arith) (omega arith))
+
+  -- and reflected
+  back : ℕ → ℕ
+  back i = flip (get all (length all - suc i))
+
+  mirrored : Mirrors (get all) (length all) back
+  unfolding back
+  mirrored = record { is = λ i j e. let z : length all - suc i ≡ j = omega arith in rw z refl }
+
+  back-sorted : Sorted back 0 (length all)
+  back-sorted = mirror-sorted (get all) (length all) back keys-all mirrored (sorted-all .sorted)
+
+  -- the parts are halves
+  upper : Part (get keys) (length keys) (λ k. k) (get (take u up′)) (length (take u up′)) (Left first last) (NotLeft first last)
+  upper = part-front up up′ u ru room (hs .above)
+
+  lower : Part (get keys) (length keys) flip (get (take v down′)) (length (take v down′)) (Right first last) (NotRight first last)
+  lower = part-front down down′ v rv room′ (hs .below)
+
+  upper-half : Half (get all) (length all) (framed first (take u up′) last) (length (take u up′) + 2)
+  upper-half =
+      half-of (get all) (length all) first last (take u up′) (omega (arith, hs .few, many, length-take-le u up′ room)) h first-is last-is
+      (sorted-front up up′ u ru room) (upper-amid ends ks upper)
+      (record { find = λ j o. let r = upper .from j o in let s = outward .find (r .0) (r .1) in (s .0, s .1, r .2 ∙ s .2) })
+      (λ i o. let r = inward .find i o in rw (r .2) (upper .rest (r .0) (r .1)))
+
+  lower-half : Half back (length all) (framed (flip last) (take v down′) (flip first)) (length (take v down′) + 2)
+  lower-half =
+      half-of back (length all) (flip last) (flip first) (take v down′) (omega (arith, hs .few, many, length-take-le v down′ room′)) (flip-less (last-key ends ks) h)
+      (mirrored .is 0 (length all - 1) (omega (arith, many, hs .few)) ∙ ap flip last-is) (mirrored .is (length all - 1) 0 (omega (arith, many, hs .few)) ∙ ap flip first-is)
+      (sorted-front down down′ v rv room′) (lower-amid ends ks lower)
+      (record { find = find }) rest
+    where
+      find : (j : ℕ) → j < length (take v down′) → Among back (length all) (get (take v down′) j)
+      find j o =
+          let r = lower .from j o in
+          let s = outward .find (r .0) (r .1) in
+          let z : s .0 < length all = s .1 in
+          (length all - suc (s .0), omega arith, r .2 ∙ ap flip (s .2) ∙ sym (mirrored .is (length all - suc (s .0)) (s .0) (omega arith)))
+
+      rest : (i : ℕ) → i < length all → Among (get (take v down′)) (length (take v down′)) (back i) ⊎ (turn (flip last) (flip first) (back i) ≤ℤ pos 0)
+      rest i o =
+          let r = inward .find (length all - suc i) (omega arith) in
+          rw (mirrored .is i (length all - suc i) (omega arith), r .2)
+          (⊎-elim inl (λ t. inr (rw (flip-turn (last-key ends ks) (first-key ends ks) (ks .key (r .0) (r .1))) (turn-over first last (get keys (r .0)) t))) (lower .rest (r .0) (r .1)))
 
   -- the chains of all, by their sides
-  cu′ : Chain (get keys) (length keys) (get old) (suc (ku - 1))
+  cu′ : Chain (get all) (length all) (get old) (suc (ku - 1))
   cu′ =
       let e : ku ≡ suc (ku - 1) = omega (arith, cu .some) in
-      subst (λ k. Chain (get keys) (length keys) (get old) k) e
-      (widen (get keys) (length keys) srt (get up) u (half-imp (λ k h. <→≤ h) (hs .above)) (get old) ku (chain-front up u room cu))
+      subst (λ k. Chain (get all) (length all) (get old) k) e
+      (widen (get all) (length all) (sorted-all .sorted) (framed first (take u up′) last) (length (take u up′) + 2) upper-half (get old) ku cu)
 
-  cl′ : Chain all (length keys) (get l) (suc (kl - 1))
+  cl′ : Chain back (length all) (get l) (suc (kl - 1))
   cl′ =
       let e : kl ≡ suc (kl - 1) = omega (arith, cl .some) in
-      let mg = mirrors-front down v room′ mi in
-      subst (λ k. Chain all (length keys) (get l) k) e
-      (widen all (length keys) (mirror-sorted (get keys) (length keys) srt ks (get down) v (hs .below) all (get f) mirrored mg) (get f) v
-      (mirror-half (get keys) (length keys) srt ks (get down) v (hs .below) all (get f) mirrored mg) (get l) kl (chain-front f v room″ cl))
+      subst (λ k. Chain back (length all) (get l) k) e
+      (widen back (length all) back-sorted (framed (flip last) (take v down′) (flip first)) (length (take v down′) + 2) lower-half (get l) kl cl)
+
+  ends-all : get all 0 < get all (length all - 1)
+  ends-all = omega (arith, first-is, last-is)
 
   pub made-few : ku - 1 + (kl - 1) ≤ length keys
-  made-few = sides-few (get keys) (length keys) srt ks ends (get old) (ku - 1) cu′ all mirrored (get l) (kl - 1) cl′
+  made-few = omega (arith, many, sides-few (get all) (length all) (sorted-all .sorted) keys-all ends-all (get old) (ku - 1) cu′ back mirrored (get l) (kl - 1) cl′)
 
-  pub made : (new : List ℕ) → length keys ≤ length new → Appended (get old) (get new) (get l) (ku - 1) (kl - 1) → Hull keys new (ku - 1 + (kl - 1))
+  pub made-lower : Keys (get l) (kl - 1)
+  made-lower = record { key = λ j o. chain-keys (mirror-keys (get all) (length all) back keys-all mirrored) (omega arith) cl′ .key j (omega arith) }
+
+  pub made : (new : List ℕ) → length keys ≤ length new → Appended flip (get old) (get new) (get l) (ku - 1) (kl - 1) → Hull keys new (ku - 1 + (kl - 1))
   made new long w =
-      closed-hull keys new (ku - 1 + (kl - 1)) (omega (arith, made-few)) ks
-      (closed-is (get keys) (length keys) srt ks ends (get old) (ku - 1) cu′ all mirrored (get l) (kl - 1) cl′
+      same-hull (omega (arith, many)) inward outward
+      (closed-hull all new (ku - 1 + (kl - 1)) (omega (arith, made-few)) keys-all
+      (closed-is (get all) (length all) (sorted-all .sorted) keys-all ends-all (get old) (ku - 1) cu′ back mirrored (get l) (kl - 1) cl′
       (get (take (ku - 1 + (kl - 1)) new))
-      (λ j h. getD-take (ku - 1 + (kl - 1)) new j 0 (omega arith) ∙ w .before j h)
-      (λ i h. getD-take (ku - 1 + (kl - 1)) new (ku - 1 + i) 0 (omega arith) ∙ w .after i h))
+      (λ j o. getD-take (ku - 1 + (kl - 1)) new j 0 (omega arith) ∙ w .before j o)
+      (λ i o. getD-take (ku - 1 + (kl - 1)) new (ku - 1 + i) 0 (omega arith) ∙ w .after i o)))
 
 -- the same where all keys are one
-pub made-one : (keys out : List ℕ) → 1 ≤ length keys → 1 ≤ length out → Sorted (get keys) 0 (length keys) → Keys (get keys) (length keys)
-    → get keys (length keys - 1) ≤ get keys 0 → get out 0 ≡ get keys 0 → Hull keys out 1
-made-one keys out some long srt ks same e =
-    closed-hull keys out 1 long ks (single-key (get keys) (length keys) (get (take 1 out)) some equal (getD-take 1 out 0 0 (omega arith) ∙ e))
+pub made-one : (keys out : List ℕ) (first last : ℕ) → 1 ≤ length keys → 1 ≤ length out → Keys (get keys) (length keys) → EndsOf keys first last
+    → last ≤ first → get out 0 ≡ first → Hull keys out 1
+made-one keys out first last some long ks ends same e =
+    closed-hull keys out 1 long ks (single-key (get keys) (length keys) (get (take 1 out)) some (λ i o. is i o ∙ sym (is 0 some)) (getD-take 1 out 0 0 (omega arith) ∙ e ∙ sym (is 0 some)))
   where
-    equal : (i : ℕ) → i < length keys → get keys i ≡ get keys 0
-    equal i h =
-        let a = srt .le 0 i (omega arith) (omega arith) h in
-        let b = srt .le i (length keys - 1) (omega arith) (omega arith) (omega arith) in
-        omega arith
-
--- ---- what the calls on the halves ask
-
-pub two : (l : List ℕ) → get l 0 < get l (length l - 1) → 2 ≤ length l
-two l h = go (decLt 1 (length l))
-  where
-    go : Dec (1 < length l) → 2 ≤ length l
-    go (yes o) = omega arith
-    go (no o) = let z : length l - 1 ≡ 0 = omega arith in let e : get l 0 < get l 0 = subst (λ i. get l 0 < get l i) z h in absurd (omega arith)
-
-module _ (l : List ℕ) (n : ℕ) (room : n ≤ length l) where
-  pub front-keys : Keys (get l) n → Keys (get (take n l)) (length (take n l))
-  front-keys ks = among ks (front-within l n room (record { find = λ i h. (i, h, refl) }))
-
--- what the calls on the reflected keys ask
-module _ (down f : List ℕ) (v : ℕ) (room′ : v ≤ length down) (room″ : v ≤ length f) (ks : Keys (get down) v) (mi : Mirrors (get (take v down)) (length (take v down)) (get f)) where
-  pub reflected-rising : Rising (get down) v → Rising (get (take v f)) (length (take v f))
-  reflected-rising ups = rising-front f v room″ (mirror-rising (get down) v (get f) ks (mirrors-front down v room′ mi) ups)
-
-  pub reflected-keys : Keys (get (take v f)) (length (take v f))
-  reflected-keys = front-keys f v room″ (mirror-keys (get down) v (get f) ks (mirrors-front down v room′ mi))
-
-  pub lower-keys : (l : List ℕ) (kl : ℕ) → Chain (get (take v f)) (length (take v f)) (get l) kl → Keys (get l) (kl - 1)
-  lower-keys l kl cl = record { key = λ j h. chain-keys reflected-keys (omega arith) cl .key j (omega arith) }
+    is : (i : ℕ) → i < length keys → get keys i ≡ first
+    is i o = omega (arith, ends .least i o, ends .most i o)

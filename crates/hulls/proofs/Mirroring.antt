@@ -13,10 +13,10 @@ use Rattle.integers.proofs.Lin.{lin}
 use Rattle.plane.specs.Points.{Point, point}
 use Rattle.plane.proofs.Twins.{signedAreaᴱ}
 use Rattle.plane.proofs.Sides.{point-ext}
-use Rattle.sorting.specs.Order.{get, Rising}
+use Rattle.sorting.specs.Order.{get, Sorted}
 use Rattle.turns.specs.Keys.{Key, pointOf}
 use Rattle.hulls.specs.Chains.{Keys, turn}
-use Rattle.hulls.specs.Mirrors.{flip, Mirrors, Appended}
+use Rattle.hulls.specs.Mirrors.{flip, Appended}
 use Rattle.hulls.proofs.Turning.{place}
 
 -- ---- one key
@@ -60,44 +60,36 @@ flip-turn {a} {b} {c} ha hb hc =
 
 -- ---- lists of keys
 
+-- f holds the m keys of q, each reflected, from the last to the first
+pub record Mirrors (q : ℕ → ℕ) (m : ℕ) (f : ℕ → ℕ) : Type 0 where
+  pub is : (i j : ℕ) → suc (i + j) ≡ m → f i ≡ flip (q j)
+
 module _ (q : ℕ → ℕ) (m : ℕ) (f : ℕ → ℕ) (ks : Keys q m) (mi : Mirrors q m f) where
   pub mirror-keys : Keys f m
   mirror-keys = record { key = λ i h. subst Key (sym (mi .is i (m - suc i) (omega arith))) (flip-key (ks .key (m - suc i) (omega arith))) }
 
-  pub mirror-rising : Rising q m → Rising f m
-  mirror-rising r = record { less = λ i j h l. less i j h l }
+  pub mirror-sorted : Sorted q 0 m → Sorted f 0 m
+  mirror-sorted s = record { le = λ i j a b c. le i j b c }
     where
-      less : (i j : ℕ) → i < j → j < m → f i < f j
-      less i j h l =
-          rw (mi .is i (m - suc i) (omega arith), mi .is j (m - suc j) (omega arith))
-          (flip-less (ks .key (m - suc i) (omega arith)) (r .less (m - suc j) (m - suc i) (omega arith) (omega arith)))
+      le : (i j : ℕ) → i ≤ j → j < m → f i ≤ f j
+      le i j b c =
+          let k = s .le (m - suc j) (m - suc i) (omega arith) (omega arith) (omega arith) in
+          rw (mi .is i (m - suc i) (omega arith), mi .is j (m - suc j) (omega arith)) (omega arith)
 
   -- and so back
   pub mirror-back : (i j : ℕ) → suc (i + j) ≡ m → flip (f i) ≡ q j
   mirror-back i j e = ap flip (mi .is i j e) ∙ flip-flip (ks .key j (omega arith))
 
--- ---- turns of the loops that write them
+-- ---- a turn of the loops that append numbers of a list
 
-module _ (keys out : List ℕ) (i : ℕ) (h : i < length keys) (o : i < length out) where
-  pub mirror-more : ((a j : ℕ) → a < i → suc (a + j) ≡ length keys → get out a ≡ flip (get keys j))
-      → (a j : ℕ) → a < i + 1 → suc (a + j) ≡ length keys → get (set out i (1048608000 - get keys (length keys - 1 - i))) a ≡ flip (get keys j)
-  mirror-more f a j k e = go (decLt a i)
-    where
-      go : Dec (a < i) → get (set out i (1048608000 - get keys (length keys - 1 - i))) a ≡ flip (get keys j)
-      go (yes l) = getD-set-other out i a _ 0 (λ e. omega arith) ∙ f a j l e
-      go (no g) =
-          let z : a ≡ i = omega arith in
-          let y : length keys - 1 - i ≡ j = omega arith in
-          rw (z, y) (getD-set-same out i (flip (get keys j)) 0 o)
-
-module _ (l old out : List ℕ) (at i : ℕ) (o : at + i < length out) where
-  pub append-more : Appended (get old) (get out) (get l) at i → Appended (get old) (get (set out (at + i) (1048608000 - get l i))) (get l) at (i + 1)
+module _ (f : ℕ → ℕ) (l old out : List ℕ) (at i : ℕ) (o : at + i < length out) where
+  pub append-more : Appended f (get old) (get out) (get l) at i → Appended f (get old) (get (set out (at + i) (f (get l i)))) (get l) at (i + 1)
   append-more w =
       record {
         before = λ j h. getD-set-other out (at + i) j _ 0 (λ e. omega arith) ∙ w .before j h;
         after = λ j h. go j h (decLt j i);
       }
     where
-      go : (j : ℕ) → j < i + 1 → Dec (j < i) → get (set out (at + i) (1048608000 - get l i)) (at + j) ≡ flip (get l j)
+      go : (j : ℕ) → j < i + 1 → Dec (j < i) → get (set out (at + i) (f (get l i))) (at + j) ≡ f (get l j)
       go j h (yes k) = getD-set-other out (at + i) (at + j) _ 0 (λ e. omega arith) ∙ w .after j k
-      go j h (no k) = let z : j ≡ i = omega arith in rw z (getD-set-same out (at + i) (flip (get l i)) 0 o)
+      go j h (no k) = let z : j ≡ i = omega arith in rw z (getD-set-same out (at + i) (f (get l i)) 0 o)

@@ -32,6 +32,14 @@ pub not-right-if : (a b c : ℕ) (r : Bool) → r ≡ ltZ (signedArea (pointOf a
 unfolding turn
 not-right-if a b c r e h = ltZ-no (subst (λ t. T (not t)) (sym h ∙ e) tt)
 
+pub left-if : (a b c : ℕ) (r : Bool) → r ≡ ltZ (pos 0) (signedArea (pointOf a) (pointOf b) (pointOf c)) → r ≡ true → pos 0 <ℤ turn a b c
+unfolding turn
+left-if a b c r e h = ltZ-yes (subst T (sym h ∙ e) tt)
+
+pub not-left-if : (a b c : ℕ) (r : Bool) → r ≡ ltZ (pos 0) (signedArea (pointOf a) (pointOf b) (pointOf c)) → r ≡ false → turn a b c ≤ℤ pos 0
+unfolding turn
+not-left-if a b c r e h = ltZ-no (subst (λ t. T (not t)) (sym h ∙ e) tt)
+
 -- ---- the vector from one key's point to another's
 
 -- the vector from a to b
@@ -50,13 +58,19 @@ step a b = way (pointOf a) (pointOf b)
 
 -- ---- turns at any keys
 
-pub turn-same : (a b : ℕ) → turn a b a ≤ℤ pos 0
+pub turn-first : (a b : ℕ) → turn a b a ≡ pos 0
 unfolding turn
-turn-same a b = ≡→≤ (ring 2 0 (λ a b. signedAreaᴱ a b a ≐ # 0) tt (place a) (place b))
+turn-first a b = ring 2 0 (λ a b. signedAreaᴱ a b a ≐ # 0) tt (place a) (place b)
+
+pub turn-last : (a b : ℕ) → turn a b b ≡ pos 0
+unfolding turn
+turn-last a b = ring 2 0 (λ a b. signedAreaᴱ a b b ≐ # 0) tt (place a) (place b)
+
+pub turn-same : (a b : ℕ) → turn a b a ≤ℤ pos 0
+turn-same a b = ≡→≤ (turn-first a b)
 
 pub turn-end : (a b : ℕ) → turn a b b ≤ℤ pos 0
-unfolding turn
-turn-end a b = ≡→≤ (ring 2 0 (λ a b. signedAreaᴱ a b b ≐ # 0) tt (place a) (place b))
+turn-end a b = ≡→≤ (turn-last a b)
 
 -- the last key is not right of the line to it
 pub not-right-end : (a b : ℕ) → turn a b b <ℤ pos 0 → ⊥

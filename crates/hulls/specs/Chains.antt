@@ -26,9 +26,9 @@ pub record Chain (q : ℕ → ℕ) (m : ℕ) (s : ℕ → ℕ) (k : ℕ) : Type 
   pub bends : (j : ℕ) → suc (suc j) < k → turn (s j) (s (suc j)) (s (suc (suc j))) <ℤ pos 0
   pub right : (i j : ℕ) → i < m → suc j < k → turn (s j) (s (suc j)) (q i) ≤ℤ pos 0
 
--- what popping leaves for a next key r, n vertices of k: the last side that is left turns right to r, and the first one that went did not
+-- what popping leaves for a next key r, n vertices of k: the last side that is left turns right to r, and no side that went does
 pub record Popped (s : ℕ → ℕ) (k r n : ℕ) : Type 0 where
   pub some : 1 ≤ n
   pub most : n ≤ k
   pub bend : (j : ℕ) → suc (suc j) ≡ n → turn (s j) (s (suc j)) r <ℤ pos 0
-  pub gone : (j : ℕ) → suc j ≡ n → n < k → pos 0 ≤ℤ turn (s j) (s n) r
+  pub gone : (j : ℕ) → n ≤ suc j → suc j < k → pos 0 ≤ℤ turn (s j) (s (suc j)) r

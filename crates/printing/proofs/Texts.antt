@@ -1,14 +1,13 @@
 -- The whole text: of a box list and a plug list, and of a file that the reader has read. Assumes nothing.
 use mathlib.Core.Path.{_≡_, refl, sym, _∙_, ap, ap₂}
-use mathlib.Core.List.{List, [], _∷_, _++_, flatMap}
+use mathlib.Core.List.{List, _++_, flatMap}
 use Prim.Native.Nat.{ℕ, _*_, _/_, _^_, _≤_, _<_}
 use native.Mathlib.Omega.{arith}
 use borrow.Author.Tests.{lt-ltb, le-ltb}
 use lib.IntN.{ℤ}
 use lib.ListN.{length, take, drop, length-append}
 use lib.Seq.{take-at}
-use Rattle.plane.specs.Points.{Point}
-use Rattle.rounds.specs.Boxes.{Box, boxesOf, plugsOf}
+use Rattle.rounds.specs.Boxes.{boxesOf, plugsOf}
 use Rattle.rounds.specs.Refusals.{Fault, none, fault, refusalFault, _orElse_, inputFault, bufferFault, boxListFault, readFault}
 use Rattle.rounds.specs.Replies.{replyUnder, bufferUnder}
 use Rattle.rounds.specs.declared.Refusal.{Refusal}
@@ -21,6 +20,7 @@ use Rattle.files.specs.declared.Reading.the-variants.{Read, Refused}
 use Rattle.files.proofs.Bytes.{length-flat, count-plugs}
 use Rattle.files.proofs.Replies.{result-none, refused-fault}
 use Rattle.files.proofs.Scan.{short}
+use Rattle.files.proofs.RoundTrips.{boxes-flat, plugs-flat}
 use Rattle.printing.specs.Text.{refusedLine, countLine, plugLines, wholeFault, textUnder, textOf}
 use Rattle.printing.specs.Steps.{roundText}
 use Rattle.printing.proofs.Decimals.{twenty-digits}
@@ -46,17 +46,6 @@ module _ (boxes plugs : List ℤ) where
       ∙ sym (ap (λ f. textUnder f (boxesOf boxes) (plugsOf plugs)) e)
 
 -- ---- of a file
-
--- the numbers of boxes and plugs are those boxes and plugs
-boxes-flat : (bs : List Box) → boxesOf (flatMap edges bs) ≡ bs
-unfolding flatMap
-boxes-flat [] = refl
-boxes-flat (b ∷ bs) = ap (λ l. b ∷ l) (boxes-flat bs)
-
-plugs-flat : (ps : List Point) → plugsOf (flatMap coordinates ps) ≡ ps
-unfolding flatMap
-plugs-flat [] = refl
-plugs-flat (p ∷ ps) = ap (λ l. p ∷ l) (plugs-flat ps)
 
 -- over 65,536 bytes
 pub text-long : (file : List ℕ) → 65536 < length file → refusedLine 12 65536 ≡ textOf file

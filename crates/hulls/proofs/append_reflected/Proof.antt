@@ -4,13 +4,13 @@ use Prim.Native.Nat.{_+_, _-_, _≤_}
 use native.Mathlib.Omega.{arith}
 use lib.ListN.{length, length-set}
 use Rattle.sorting.specs.Order.{get}
-use Rattle.hulls.specs.Mirrors.{Appended}
+use Rattle.hulls.specs.Mirrors.{flip, Appended}
 use Rattle.hulls.proofs.Mirroring.{key-most, append-more}
 use Rattle.hulls.proofs.append_reflected.Statement.{statement}
 use Rattle.hulls.proofs.append_reflected.Tie as tie
 
 abbrev Inv-loop : tie.InvT-loop
-Inv-loop lower count vertices₀ at i₀ vertices i = (i ≤ count) × ((length vertices ≡ length vertices₀) × Appended (get vertices₀) (get vertices) (get lower) at i)
+Inv-loop lower count vertices₀ at i₀ vertices i = (i ≤ count) × ((length vertices ≡ length vertices₀) × Appended flip (get vertices₀) (get vertices) (get lower) at i)
 
 abbrev μ-loop : tie.MeasureT-loop
 μ-loop lower count vertices₀ at i₀ vertices i = count - i
@@ -52,7 +52,7 @@ loop-again c =
       omega arith,
       (
         length-set (l .vertices) (s .args .at + l .i) _ ∙ l .inv .1 .0,
-        append-more (s .args .lower .now) (s .args .vertices .now) (l .vertices) (s .args .at) (l .i) (omega arith) (l .inv .1 .1),
+        append-more flip (s .args .lower .now) (s .args .vertices .now) (l .vertices) (s .args .at) (l .i) (omega arith) (l .inv .1 .1),
       ),
     )
 
@@ -64,7 +64,7 @@ returns c =
     let l = c .before .loop in
     let s = c .before .before in
     let e : l .i ≡ s .args .count = omega arith in
-    subst (λ k. Appended (get (s .args .vertices .now)) (get (l .vertices)) (get (s .args .lower .now)) (s .args .at) k) e (l .inv .1 .1)
+    subst (λ k. Appended flip (get (s .args .vertices .now)) (get (l .vertices)) (get (s .args .lower .now)) (s .args .at) k) e (l .inv .1 .1)
 
 pub append-reflected-spec : {M : Type 1} → statement M
 append-reflected-spec =

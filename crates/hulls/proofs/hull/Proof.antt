@@ -16,16 +16,16 @@ use Rattle.hulls.proofs.hull.Tie as tie
 drop-inner-requires : tie.Need-drop-inner-requires
 drop-inner-requires c κs = search needs
 
-slice-relend-prefix-sorted-hull : tie.Need-slice-relend-prefix-sorted-hull
-slice-relend-prefix-sorted-hull c = search needs
+slice-relend-prefix-polygon : tie.Need-slice-relend-prefix-polygon
+slice-relend-prefix-polygon c = search needs
 
-slice-aggregate-sorted-hull : tie.Need-slice-aggregate-sorted-hull
-slice-aggregate-sorted-hull c =
+slice-aggregate-polygon : tie.Need-slice-aggregate-polygon
+slice-aggregate-polygon c =
     let d = c .before .before .before .drop-inner in
     sym (length-take-le (d .result) (d .last .0) (omega (arith, d .ensures .few, d .kept .0)))
 
-sorted-hull-requires : tie.Need-sorted-hull-requires
-sorted-hull-requires c κs =
+polygon-requires : tie.Need-polygon-requires
+polygon-requires c κs =
     let s = c .before .before .before .before .before .before .before .before .before .before .before .before in
     let d = c .before .before .before .before .before .before .drop-inner in
     let o : d .result ≤ length (d .last .0) = omega (arith, d .ensures .few, d .kept .0) in
@@ -55,16 +55,16 @@ returns : tie.Need-returns
 returns c =
     let s = c .before .before .before .before .before .before .before .before .before .before .before .before .before .before .before .before .before .before .before .before .before in
     let d = c .before .before .before .before .before .before .before .before .before .before .before .before .before .before .before .drop-inner in
-    left-hull (s .args .keys .now) (d .last .0) (d .result) (omega (arith, d .ensures .few, d .kept .0)) (d .ensures) (c .before .before .before .before .before .before .before .before .sorted-hull .ensures)
+    left-hull (s .args .keys .now) (d .last .0) (d .result) (omega (arith, d .ensures .few, d .kept .0)) (d .ensures) (c .before .before .before .before .before .before .before .before .polygon .ensures)
 
 pub hull-spec : {M : Type 1} → statement M
 hull-spec =
     tie.close
     (tie.spec
     drop-inner-requires
-    slice-relend-prefix-sorted-hull
-    slice-aggregate-sorted-hull
-    sorted-hull-requires
+    slice-relend-prefix-polygon
+    slice-aggregate-polygon
+    polygon-requires
     same-length
     same-length-2
     same-length-3

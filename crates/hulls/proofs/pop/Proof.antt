@@ -1,7 +1,8 @@
--- `hulls::pop` meets its contract. The invariant: between 1 and k vertices are left, and where some went, the last that went made no right turn. Assumes nothing.
+-- `hulls::pop` meets its contract. The invariant: between 1 and k vertices are left, and no side that went turns right to r. Assumes nothing.
 use mathlib.Core.List.{List}
 use mathlib.Core.Path.{_≡_}
 use Prim.Native.Nat.{ℕ, suc, _-_, _≤_, _<_}
+use native.Mathlib.Decide.{decLt}
 use native.Mathlib.Omega.{arith}
 use lib.IntN.{pos}
 use lib.Signed.{_≤ℤ_, _<ℤ_}
@@ -18,13 +19,20 @@ at-top s r n j e h =
     let b : n - 1 ≡ suc j = omega arith in
     rw (a, b) at h
 
-at-gone : (s : List ℕ) (r n j : ℕ) → suc j ≡ n - 1 → pos 0 ≤ℤ turn (get s (n - 2)) (get s (n - 1)) r → pos 0 ≤ℤ turn (get s j) (get s (n - 1)) r
-at-gone s r n j e h =
-    let a : n - 2 ≡ j = omega arith in
-    rw a at h
+-- one more side went
+at-gone : (s : List ℕ) (r k n : ℕ) → ((j : ℕ) → n ≤ suc j → suc j < k → pos 0 ≤ℤ turn (get s j) (get s (suc j)) r)
+    → pos 0 ≤ℤ turn (get s (n - 2)) (get s (n - 1)) r → (j : ℕ) → n - 1 ≤ suc j → suc j < k → pos 0 ≤ℤ turn (get s j) (get s (suc j)) r
+at-gone s r k n f h j l o = go (decLt (suc j) n)
+  where
+    go : Dec (suc j < n) → pos 0 ≤ℤ turn (get s j) (get s (suc j)) r
+    go (yes z) =
+        let a : n - 2 ≡ j = omega arith in
+        let b : n - 1 ≡ suc j = omega arith in
+        rw (a, b) at h
+    go (no z) = f j (omega arith) o
 
 abbrev Inv-loop : tie.InvT-loop
-Inv-loop stack k r n₀ n = (1 ≤ n) × ((n ≤ k) × ((j : ℕ) → suc j ≡ n → n < k → pos 0 ≤ℤ turn (get stack j) (get stack n) r))
+Inv-loop stack k r n₀ n = (1 ≤ n) × ((n ≤ k) × ((j : ℕ) → n ≤ suc j → suc j < k → pos 0 ≤ℤ turn (get stack j) (get stack (suc j)) r))
 
 abbrev μ-loop : tie.MeasureT-loop
 μ-loop stack k r n₀ n = n
@@ -74,7 +82,7 @@ loop-again : tie.Need-loop-again Inv-loop μ-loop
 loop-again c =
     let l = c .before .before .before .before .before .loop in
     let s = c .before .before .before .before .before .before .before .args in
-    (omega arith, (omega arith, λ j e h. at-gone (s .stack .now) (s .r) (l .n) j e (not-right-if _ _ _ _ (c .before .turns-right .ensures) (c .if1 .left))))
+    (omega arith, (omega arith, at-gone (s .stack .now) (s .r) (s .k) (l .n) (l .inv .1 .1) (not-right-if _ _ _ _ (c .before .turns-right .ensures) (c .if1 .left))))
 
 returns-2 : tie.Need-returns-2 Inv-loop μ-loop
 returns-2 c =
