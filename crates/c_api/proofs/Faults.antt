@@ -9,7 +9,8 @@ use lib.IntN.{ℤ}
 use lib.ListN.{length}
 use Rattle.plane.specs.Points.{Point}
 use Rattle.rounds.specs.Boxes.{Box, boxesOf, plugsOf}
-use Rattle.rounds.specs.Refusals.{Fault, none, fault, when, _orElse_, beyond, farFault, reversedFault, boxFault, eachBoxFault, boxListFault, plugFault, eachPlugFault, plugListFault, bufferFault, areaFault, verdictFault, writeFault, readFault}
+use Rattle.rounds.specs.Refusals.{Fault, none, fault, when, _orElse_, beyond, farFault, reversedFault, boxFault, eachBoxFault, boxListFault}
+use Rattle.rounds.specs.Refusals.{plugFault, eachPlugFault, plugListFault, bufferFault, areaFault, verdictFault, writeFault, readFault}
 use Rattle.files.specs.Format.{Kind, boxKind, plugKind, noteKind, endKind, unknownKind, kindAt, nextAt}
 use Rattle.files.specs.Content.{Content, stopsBefore, kindFault, formFault, andThen, pluggedBy, readFrom, contentOf}
 use Rattle.files.specs.Promises.{byteCount, readerFault, writerFault}

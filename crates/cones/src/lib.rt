@@ -20,7 +20,7 @@ use turns::Turn;
 // The cone of the points so far, as seen from the plug: every point is the plug; all are on the ray through a point; on the line through two on opposite sides of
 // the plug; from the ray through one to the ray through another, left of it by less than half a turn; left of the line through two on opposite sides, or on it;
 // or the plug is strictly inside, and in the triangle of three.
-pub enum Cone {
+enum Cone {
     Nothing,
     Ray(u32),
     Line(u32, u32),
@@ -30,7 +30,7 @@ pub enum Cone {
 }
 
 // The second driver's search among the points so far: all are strictly on one side of the plug, with their cone; or three are found that balance.
-pub enum Search {
+enum Search {
     Apart(Cone),
     Found(Weighted, Weighted, Weighted),
 }
@@ -144,10 +144,10 @@ fn pass_wedge(boxes: &[i32], corner: Corner, k: usize, a: u32, b: u32, plug: u32
     let mut i = k;
     while i < count {
         let v = corners::corner_key(boxes, i, corner);
-        if !turns::turns_right(a, plug, v) {
+        if !turns::turns_right(plug, v, a) {
             return i;
         }
-        if !turns::turns_right(v, plug, b) {
+        if !turns::turns_right(plug, b, v) {
             return i;
         }
         i += 1;

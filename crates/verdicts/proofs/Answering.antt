@@ -29,10 +29,10 @@ use Rattle.verdicts.specs.declared.Entry.{Entry}
 use Rattle.verdicts.specs.declared.Reasons.{Reasons}
 use Rattle.verdicts.specs.declared.Verdict.{Verdict}
 use Rattle.verdicts.specs.declared.Verdict.the-variants as Verdict′
-use Rattle.verdicts.specs.declared.Place.{Place}
-use Rattle.verdicts.specs.declared.Place.the-variants.{Within, Off, Between}
+use Rattle.verdicts.specs.declared.Position.{Position}
+use Rattle.verdicts.specs.declared.Position.the-variants.{Within, Off, Between}
 use Rattle.verdicts.specs.Entries.{entryOf, EntryFor, ReasonsFor}
-use Rattle.verdicts.specs.Places.{PlaceSays}
+use Rattle.verdicts.specs.Positions.{PositionSays}
 use Rattle.verdicts.specs.Verdicts.{Leaning, entriesOf, Reasoned, verdictReply, verdictOn, VerdictIs}
 
 -- boxes and a plug that no cause turns back
@@ -82,26 +82,26 @@ reasoned bs p d a b c r l h f =
 pub reasoned-means : (bs : List Box) (p : Point) (r : Reasons) → All Ordered bs → Reasoned bs p r → Means bs p undecided
 reasoned-means bs p r os h = undecided-by p os (r .direction .corner) (r .direction .east) (r .direction .north) (entriesOf r) (h .first-driver .reason) (h .second-driver)
 
--- the word of a place
-abbrev pub placeWord : Place → Word
-placeWord Within = inside
-placeWord Off = outside
-placeWord (Between d a b c) = undecided
+-- the word of a position
+abbrev pub positionWord : Position → Word
+positionWord Within = inside
+positionWord Off = outside
+positionWord (Between d a b c) = undecided
 
--- three balanced corners and a direction give each driver a pick, so a place means its word
-pub place-means : (bs : List Box) (p : Point) (r : Place) → All Ordered bs → PlaceSays bs p r → Means bs p (placeWord r)
-place-means bs p Within os h = h
-place-means bs p Off os h = h
-place-means bs p (Between d a b c) os h = ((cornerPick os (d .corner), reason-supported (h .0 .reason)), corners-second p os (balances-balanced (h .1)))
+-- three balanced corners and a direction give each driver a pick, so a position means its word
+pub position-means : (bs : List Box) (p : Point) (r : Position) → All Ordered bs → PositionSays bs p r → Means bs p (positionWord r)
+position-means bs p Within os h = h
+position-means bs p Off os h = h
+position-means bs p (Between d a b c) os h = ((cornerPick os (d .corner), reason-supported (h .0 .reason)), corners-second p os (balances-balanced (h .1)))
 
 -- so it is the only one
-pub place-word : (bs : List Box) (p : Point) (r : Place) → All Ordered bs → PlaceSays bs p r → placeWord r ≡ wordOf bs p
-place-word bs p r os h = exactly bs p os (placeWord r) .0 (place-means bs p r os h)
+pub position-word : (bs : List Box) (p : Point) (r : Position) → All Ordered bs → PositionSays bs p r → positionWord r ≡ wordOf bs p
+position-word bs p r os h = exactly bs p os (positionWord r) .0 (position-means bs p r os h)
 
 -- and the reply of accepted boxes and a plug, whose key is k
-pub verdict-placed : (l : List ℤ) (p : Point) (k : ℕ) (r : Place) → verdictFault l p ≡ Fault.none → pointOf k ≡ p → PlaceSays (boxesOf l) (pointOf k) r → result (placeWord r) ≡ verdictOn l p
-verdict-placed l p k r e i h =
-    ap result (place-word (boxesOf l) p r (accepted l (verdict-accepted l p e .0) .boxes .ordered) (subst (λ q. PlaceSays (boxesOf l) q r) i h))
+pub verdict-told : (l : List ℤ) (p : Point) (k : ℕ) (r : Position) → verdictFault l p ≡ Fault.none → pointOf k ≡ p → PositionSays (boxesOf l) (pointOf k) r → result (positionWord r) ≡ verdictOn l p
+verdict-told l p k r e i h =
+    ap result (position-word (boxesOf l) p r (accepted l (verdict-accepted l p e .0) .boxes .ordered) (subst (λ q. PositionSays (boxesOf l) q r) i h))
     ∙ sym (ap (λ f. replyUnder f (wordOf (boxesOf l) p)) e)
 
 -- a refusal is the reply under its fault

@@ -1,3 +1,3 @@
 pub mod Entries
 pub mod Verdicts
-pub mod Places
+pub mod Positions

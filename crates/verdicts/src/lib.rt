@@ -8,7 +8,7 @@ ghost use Rattle.rounds.specs.Boxes.{box, boxesOf, allCorners};
 ghost use Rattle.rounds.specs.Refusals.{none, faultOf, boxListFault, verdictFault};
 ghost use Rattle.locations.specs.Answers.{Member};
 ghost use Rattle.verdicts.specs.Entries.{SamePoint, FoundIn, EntryFor, ReasonsFor};
-ghost use Rattle.verdicts.specs.Places.{LeanSays, PlaceSays};
+ghost use Rattle.verdicts.specs.Positions.{LeanSays, PositionSays};
 ghost use Rattle.verdicts.specs.Verdicts.{VerdictIs, wordReply, verdictOn};
 use locations::Balance;
 use locations::Support;
@@ -63,7 +63,7 @@ enum Lean {
 
 // Where a plug lies with respect to some boxes: strictly inside the hull of each of the four corners, off the hull of all corners, or between, by a direction and
 // three weighted corners.
-enum Place {
+enum Position {
     Within,
     Off,
     Between(Direction, Weighted, Weighted, Weighted),
@@ -148,31 +148,31 @@ fn lean_at(boxes: &[i32], corner: Corner, plug: u32) -> Lean
 }
 
 // Where a plug lies with respect to accepted boxes: off all corners' hull, or else by the first corner that leaves it not strictly inside.
-fn place_of(boxes: &[i32], plug: u32) -> Place
+fn position_of(boxes: &[i32], plug: u32) -> Position
     requires { ⌜ (boxListFault (now boxes) ≡ none) × Key plug ⌝ }
-    ensures { λ r. ⌜ PlaceSays (boxesOf (now (boxes .entry))) (pointOf plug) r ⌝ }
+    ensures { λ r. ⌜ PositionSays (boxesOf (now (boxes .entry))) (pointOf plug) r ⌝ }
 {
     let balance = cones::balance_of(boxes, plug);
     let Balance::Triangle(a, b, c) = balance else {
-        return Place::Off;
+        return Position::Off;
     };
     let sw = lean_at(boxes, Corner::SouthWest, plug);
     if let Lean::Toward(direction) = sw {
-        return Place::Between(direction, a, b, c);
+        return Position::Between(direction, a, b, c);
     }
     let se = lean_at(boxes, Corner::SouthEast, plug);
     if let Lean::Toward(direction) = se {
-        return Place::Between(direction, a, b, c);
+        return Position::Between(direction, a, b, c);
     }
     let ne = lean_at(boxes, Corner::NorthEast, plug);
     if let Lean::Toward(direction) = ne {
-        return Place::Between(direction, a, b, c);
+        return Position::Between(direction, a, b, c);
     }
     let nw = lean_at(boxes, Corner::NorthWest, plug);
     if let Lean::Toward(direction) = nw {
-        return Place::Between(direction, a, b, c);
+        return Position::Between(direction, a, b, c);
     }
-    Place::Within
+    Position::Within
 }
 
 // The reasons that carry the direction, and an entry for each of three vertices, which are corners of boxes of the list.
@@ -211,11 +211,11 @@ pub fn verdict_on(boxes: &[i32], east: i32, north: i32) -> Verdict
         return Verdict::Refused(refusal);
     }
     let plug = turns::key_of(east, north);
-    let place = place_of(boxes, plug);
-    match place {
-        Place::Within => Verdict::Inside,
-        Place::Off => Verdict::Outside,
-        Place::Between(direction, a, b, c) => {
+    let position = position_of(boxes, plug);
+    match position {
+        Position::Within => Verdict::Inside,
+        Position::Off => Verdict::Outside,
+        Position::Between(direction, a, b, c) => {
             Verdict::Undecided(reasons_of(boxes, direction, a, b, c))
         }
     }
@@ -230,10 +230,10 @@ pub fn word_on(boxes: &[i32], east: i32, north: i32) -> PlugWord
         return PlugWord::Refused(refusal);
     }
     let plug = turns::key_of(east, north);
-    let place = place_of(boxes, plug);
-    match place {
-        Place::Within => PlugWord::Inside,
-        Place::Off => PlugWord::Outside,
-        Place::Between(_, _, _, _) => PlugWord::Undecided,
+    let position = position_of(boxes, plug);
+    match position {
+        Position::Within => PlugWord::Inside,
+        Position::Off => PlugWord::Outside,
+        Position::Between(_, _, _, _) => PlugWord::Undecided,
     }
 }

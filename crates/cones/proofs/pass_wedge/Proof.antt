@@ -4,18 +4,15 @@ use mathlib.Core.Bool.{Bool, true, false, not}
 use Prim.Native.Nat.{_/_, _-_, _<_}
 use native.Mathlib.Omega.{arith}
 use lib.IntN.{pos}
-use lib.Signed.{_<ℤ_}
 use lib.ListN.{length}
 use Rattle.integers.proofs.Machine.{ltZ-true}
-use Rattle.integers.proofs.Expr.{#_, _≺_, _⟹_}
-use Rattle.integers.proofs.Cert.{cert, hyp, _∵_}
-use Rattle.plane.specs.Points.{Point, point, signedArea}
-use Rattle.plane.proofs.Twins.{signedAreaᴱ, pt}
+use Rattle.plane.specs.Points.{point}
 use Rattle.turns.specs.Keys.{pointOf}
 use Rattle.rounds.specs.Boxes.{boxesOf, cornersOf}
 use Rattle.corners.proofs.Edges.{corners-length}
 use Rattle.cones.specs.Cones.{PassesOver}
 use Rattle.cones.specs.declared.Cone.the-variants.{Wedge}
+use Rattle.cones.proofs.Turns.{back-pos}
 use Rattle.cones.proofs.Searching.{passes-none, passes-next}
 use Rattle.cones.proofs.pass_wedge.Statement.{statement}
 use Rattle.cones.proofs.pass_wedge.Tie as tie
@@ -31,10 +28,6 @@ passed : (t : Bool) → not t ≡ false → t ≡ true
 passed true e = refl
 passed false e = sym e
 
--- right of the way from a point to the plug is left of the way from the plug to it
-left-of : (p a b : Point) → signedArea a p b <ℤ pos 0 → pos 0 <ℤ signedArea p a b
-left-of p a b = cert 3 0 (λ p a b. signedAreaᴱ a p b ≺ # 0 ⟹ # 0 ≺ signedAreaᴱ p a b ∵ hyp 0) tt (pt p) (pt a) (pt b)
-
 loop-holds : tie.Need-loop-holds Inv-loop μ-loop
 loop-holds c = passes-none _ _ (c .args .k) (omega (arith, c .pre .1, corners-length (c .args .corner) (c .args .boxes .now)))
 
@@ -42,7 +35,7 @@ corner-key-requires : tie.Need-corner-key-requires Inv-loop μ-loop
 corner-key-requires c κs = (c .before .before .pre .0, omega arith)
 
 turns-right-requires : tie.Need-turns-right-requires Inv-loop μ-loop
-turns-right-requires c κs = let s = c .before .before .before in (s .pre .2, s .pre .4, c .corner-key .ensures .key)
+turns-right-requires c κs = let s = c .before .before .before in (s .pre .4, c .corner-key .ensures .key, s .pre .2)
 
 returns : tie.Need-returns Inv-loop μ-loop
 returns c = c .before .before .before .before .loop .inv
@@ -51,7 +44,7 @@ turns-right-requires-2 : tie.Need-turns-right-requires-2 Inv-loop μ-loop
 turns-right-requires-2 c κs =
     let d = c .before .before in
     let s = d .before .before .before in
-    (d .corner-key .ensures .key, s .pre .4, s .pre .3)
+    (s .pre .4, s .pre .3, d .corner-key .ensures .key)
 
 returns-2 : tie.Need-returns-2 Inv-loop μ-loop
 returns-2 c = c .before .before .before .before .before .before .loop .inv
@@ -71,8 +64,8 @@ loop-again c =
     let s = d .before .before .before in
     let n : i < length (cornersOf (s .args .corner) (boxesOf (s .args .boxes .now))) = omega (arith, corners-length (s .args .corner) (s .args .boxes .now)) in
     passes-next _ (point (pos 0) (pos 0)) _ _ _ i (d .corner-key .result) n (d .corner-key .ensures .key) (d .corner-key .ensures .is)
-    (left-of (pointOf (s .args .plug)) (pointOf (s .args .a)) (pointOf (d .corner-key .result)) (ltZ-true (sym (l .turns-right .ensures) ∙ passed _ (r .before .if1 .left))))
-    (left-of (pointOf (s .args .plug)) (pointOf (d .corner-key .result)) (pointOf (s .args .b)) (ltZ-true (sym (r .turns-right2 .ensures) ∙ passed _ (c .if2 .left))))
+    (back-pos (pointOf (s .args .plug)) (pointOf (d .corner-key .result)) (pointOf (s .args .a)) (ltZ-true (sym (l .turns-right .ensures) ∙ passed _ (r .before .if1 .left))))
+    (back-pos (pointOf (s .args .plug)) (pointOf (s .args .b)) (pointOf (d .corner-key .result)) (ltZ-true (sym (r .turns-right2 .ensures) ∙ passed _ (c .if2 .left))))
     (d .before .before .loop .inv)
 
 returns-3 : tie.Need-returns-3 Inv-loop μ-loop

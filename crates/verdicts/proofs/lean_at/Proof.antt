@@ -3,7 +3,7 @@ use mathlib.Core.Path.{subst}
 use Rattle.turns.specs.Keys.{pointOf}
 use Rattle.rounds.specs.Boxes.{boxesOf, cornersOf}
 use Rattle.locations.specs.Answers.{SupportSays}
-use Rattle.verdicts.proofs.Placing.{leaning}
+use Rattle.verdicts.proofs.Positions.{leaning}
 use borrow.Author.Needs.{needs}
 use Rattle.verdicts.proofs.lean_at.Statement.{statement}
 use Rattle.verdicts.proofs.lean_at.Tie as tie

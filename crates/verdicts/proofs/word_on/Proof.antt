@@ -1,4 +1,4 @@
--- `verdicts::word_on` meets its contract: the word of the plug's place. Assumes nothing.
+-- `verdicts::word_on` meets its contract: the word of the plug's position. Assumes nothing.
 use mathlib.Core.Path.{_≡_, sym, _∙_, ap}
 use borrow.Author.Needs.{needs}
 use mir.Syntax.{w32}
@@ -9,7 +9,7 @@ use Rattle.rounds.specs.Refusals.{Fault, faultOf, verdictFault}
 use Rattle.rounds.specs.Replies.{result}
 use Rattle.verdicts.specs.Verdicts.{verdictOn}
 use Rattle.rounds.proofs.Accepted.{plug-accepted}
-use Rattle.verdicts.proofs.Answering.{verdict-accepted, placeWord, verdict-placed, refused-reply}
+use Rattle.verdicts.proofs.Answering.{verdict-accepted, positionWord, verdict-told, refused-reply}
 use Rattle.verdicts.proofs.word_on.Statement.{statement}
 use Rattle.verdicts.proofs.word_on.Tie as tie
 
@@ -25,10 +25,10 @@ is-accepted c = sym (is-checked (c .before .before)) ∙ ap faultOf (c .enum-tol
 is-plug : (c : tie.After-key-of) → pointOf (c .key-of .result) ≡ point (c .before .before .before .before .args .east) (c .before .before .before .before .args .north)
 is-plug c = c .key-of .ensures .is ∙ search needs
 
--- so the reply is the word of the plug's place
-is-placed : (c : tie.After-place-of) → let s = c .before .before .before .before .before in
-    result (placeWord (c .place-of .result)) ≡ verdictOn (s .args .boxes .now) (point (s .args .east) (s .args .north))
-is-placed c = verdict-placed _ _ (c .before .key-of .result) (c .place-of .result) (is-accepted (c .before .before)) (is-plug (c .before)) (c .place-of .ensures)
+-- so the reply is the word of the plug's position
+is-told : (c : tie.After-position-of) → let s = c .before .before .before .before .before in
+    result (positionWord (c .position-of .result)) ≡ verdictOn (s .args .boxes .now) (point (s .args .east) (s .args .north))
+is-told c = verdict-told _ _ (c .before .key-of .result) (c .position-of .result) (is-accepted (c .before .before)) (is-plug (c .before)) (c .position-of .ensures)
 
 check-requires : tie.Need-check-requires
 check-requires c κs = search needs
@@ -47,8 +47,8 @@ key-of-requires c κs =
     let s = c .before .before .before in
     rw (toZ-ofZ w32 _ (s .fits .east), toZ-ofZ w32 _ (s .fits .north)) (plug-accepted 1 (point (s .args .east) (s .args .north)) (verdict-accepted (s .args .boxes .now) (point (s .args .east) (s .args .north)) (is-accepted c) .1))
 
-place-of-requires : tie.Need-place-of-requires
-place-of-requires c κs = (verdict-accepted _ _ (is-accepted (c .before)) .0, c .key-of .ensures .key)
+position-of-requires : tie.Need-position-of-requires
+position-of-requires c κs = (verdict-accepted _ _ (is-accepted (c .before)) .0, c .key-of .ensures .key)
 
 enum-told-2 : tie.Need-enum-told-2
 enum-told-2 c = search needs
@@ -60,13 +60,13 @@ enum-told-4 : tie.Need-enum-told-4
 enum-told-4 c = search needs
 
 returns-2 : tie.Need-returns-2
-returns-2 c = ap (λ r. result (placeWord r)) (sym (c .enum-told2 .given .1)) ∙ is-placed (c .before .before)
+returns-2 c = ap (λ r. result (positionWord r)) (sym (c .enum-told2 .given .1)) ∙ is-told (c .before .before)
 
 returns-3 : tie.Need-returns-3
-returns-3 c = ap (λ r. result (placeWord r)) (sym (c .enum-told3 .given .1)) ∙ is-placed (c .before .before)
+returns-3 c = ap (λ r. result (positionWord r)) (sym (c .enum-told3 .given .1)) ∙ is-told (c .before .before)
 
 returns-4 : tie.Need-returns-4
-returns-4 c = ap (λ r. result (placeWord r)) (sym (c .enum-told4 .given .1)) ∙ is-placed (c .before .before)
+returns-4 c = ap (λ r. result (positionWord r)) (sym (c .enum-told4 .given .1)) ∙ is-told (c .before .before)
 
 pub word-on-spec : {M : Type 1} → statement M
 word-on-spec =
@@ -77,7 +77,7 @@ word-on-spec =
     returns
     enum-told
     key-of-requires
-    place-of-requires
+    position-of-requires
     enum-told-2
     enum-told-3
     enum-told-4

@@ -1,4 +1,4 @@
--- `verdicts::place_of` meets its contract: by what the cones on the way say. Assumes nothing.
+-- `verdicts::position_of` meets its contract: by what the cones on the way say. Assumes nothing.
 use mathlib.Core.Path.{subst}
 use mathlib.Core.List.{List, map}
 use Rattle.plane.specs.Points.{Point}
@@ -9,10 +9,10 @@ use Rattle.rounds.specs.declared.Corner.the-variants.{SouthWest, SouthEast, Nor
 use Rattle.rounds.proofs.Corners.{by-corner, inside-by-corners, outside-by-corners}
 use Rattle.locations.specs.Answers.{BalanceSays}
 use Rattle.locations.specs.declared.Balance.the-variants.{Triangle}
-use Rattle.verdicts.specs.Places.{LeanSays}
+use Rattle.verdicts.specs.Positions.{LeanSays}
 use borrow.Author.Needs.{needs}
-use Rattle.verdicts.proofs.place_of.Statement.{statement}
-use Rattle.verdicts.proofs.place_of.Tie as tie
+use Rattle.verdicts.proofs.position_of.Statement.{statement}
+use Rattle.verdicts.proofs.position_of.Tie as tie
 
 -- the boxes and the plug
 module _ (s : tie.Start) where
@@ -112,8 +112,8 @@ returns-6 c =
     (subst (LeanSays (bs s) (p s) NorthEast) (ne .enum-told4 .given .1) (ne .before .before .lean-at3 .ensures))
     (subst (LeanSays (bs s) (p s) NorthWest) (c .enum-told5 .given .1) (c .before .before .lean-at4 .ensures)))
 
-pub place-of-spec : {M : Type 1} → statement M
-place-of-spec =
+pub position-of-spec : {M : Type 1} → statement M
+position-of-spec =
     tie.close
     (tie.spec
     balance-of-requires

@@ -1,4 +1,4 @@
--- From what the cones tell each driver to what a plug's place says of the boxes. Assumes nothing.
+-- From what the cones tell each driver to what a plug's position says of the boxes. Assumes nothing.
 use mathlib.Core.Path.{sym, subst₂}
 use mathlib.Core.List.{List}
 use lib.IntN.{ℤ}
