@@ -1,4 +1,4 @@
-"""Rounds to compare with, from a generator that is easy to write again in any language.
+"""Rounds and files to compare with, from a generator that is easy to write again in any language.
 
 The generator: state = (state * 1103515245 + 12345) mod 2^31, value = state >> 16, so a value is from 0 to 32767.
 `below(limit)` is value mod limit. Every function draws in the order in which its lines stand.
@@ -236,6 +236,37 @@ def coprime(first, second):
 def in_angle_order(vectors):
     """Vectors with positive east and no negative north, by growing slope."""
     return sorted(vectors, key=lambda vector: Fraction(vector[1], vector[0]))
+
+
+# ---------------------------------------------------------------------------------------------------------------------------
+# Files
+
+
+def random_file(generator):
+    """Bytes near a round file: records in mostly the right order, with notes, and then often one spoiled place."""
+    parts = []
+    for _ in range(generator.below(4)):
+        parts.append(b"\x5b\x01" + bytes(generator.below(256) for _ in range(16)))
+    for _ in range(generator.below(3)):
+        parts.append(b"\x5b\x02" + bytes(generator.below(256) for _ in range(8)))
+    for _ in range(generator.below(3)):
+        length = (0, 1, 2, 91, 255)[generator.below(5)]
+        note = bytes([0x5C, generator.below(256), length]) + bytes((0x5B, 0, 1, 2)[generator.below(4)] for _ in range(length))
+        parts.insert(generator.below(len(parts) + 1), note)
+    if generator.below(8) == 0 and parts:
+        drawn = parts.pop(generator.below(len(parts)))
+        parts.insert(generator.below(len(parts) + 1), drawn)
+    if generator.below(8) > 0:
+        parts.append(b"\x5b\x00")
+    data = bytearray(b"".join(parts))
+    spoil = generator.below(6)
+    if spoil == 0:
+        data = data[: generator.below(len(data) + 1)]
+    if spoil == 1 and data:
+        data[generator.below(len(data))] = (0x5B, 0x5C, 0x5D, 0, 1, 2, 3)[generator.below(7)]
+    if spoil == 2:
+        data += bytes([(0x5B, 0, 1)[generator.below(3)]])
+    return bytes(data)
 
 
 # ---------------------------------------------------------------------------------------------------------------------------

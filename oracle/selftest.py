@@ -8,8 +8,9 @@ import sys
 import time
 from itertools import product
 from math import cos, pi, sin
+from pathlib import Path
 
-from . import cases, files, printing, rounds
+from . import cases, files, printing, rounds, write_cases
 
 SEED = 20011
 MOST_FAILURES_SHOWN = 20
@@ -438,33 +439,6 @@ def has_plug(records):
     return any(match.group()[:2] == b"\x5b\x02" for match in ONE_RECORD_PATTERN.finditer(records))
 
 
-def random_file(generator):
-    """Bytes near a round file: records in mostly the right order, with notes, and then often one spoiled place."""
-    parts = []
-    for _ in range(generator.below(4)):
-        parts.append(b"\x5b\x01" + bytes(generator.below(256) for _ in range(16)))
-    for _ in range(generator.below(3)):
-        parts.append(b"\x5b\x02" + bytes(generator.below(256) for _ in range(8)))
-    for _ in range(generator.below(3)):
-        length = (0, 1, 2, 91, 255)[generator.below(5)]
-        note = bytes([0x5C, generator.below(256), length]) + bytes((0x5B, 0, 1, 2)[generator.below(4)] for _ in range(length))
-        parts.insert(generator.below(len(parts) + 1), note)
-    if generator.below(8) == 0 and parts:
-        drawn = parts.pop(generator.below(len(parts)))
-        parts.insert(generator.below(len(parts) + 1), drawn)
-    if generator.below(8) > 0:
-        parts.append(b"\x5b\x00")
-    data = bytearray(b"".join(parts))
-    spoil = generator.below(6)
-    if spoil == 0:
-        data = data[: generator.below(len(data) + 1)]
-    if spoil == 1 and data:
-        data[generator.below(len(data))] = (0x5B, 0x5C, 0x5D, 0, 1, 2, 3)[generator.below(7)]
-    if spoil == 2:
-        data += bytes([(0x5B, 0, 1)[generator.below(3)]])
-    return bytes(data)
-
-
 def file_examples(report):
     """The reader, the writer and the printing program on files made by hand."""
     part = "files: by hand"
@@ -546,11 +520,28 @@ def file_of_length(length, box):
     return data + b"".join(b"\x5c\x01" + bytes([size - 3]) + bytes(size - 3) for size in (first, rest - first)) + b"\x5b\x00"
 
 
+def written_files(report):
+    """What the programs are run on and must write, and the samples, are what write_cases writes; and the drivers meet every word and refusal."""
+    for path, data in write_cases.written().items():
+        found = Path(path).read_bytes() if Path(path).is_file() else None
+        report.true("files: as write_cases writes them", found == data, path)
+    met = {
+        "areas_main": set(re.findall("refused [0-9]+", write_cases.areas()[1].decode())),
+        "verdicts_main": set(re.findall("refused [0-9]+|[a-z]+side|undecided", write_cases.verdicts()[1].decode())),
+        "files_main": set(re.findall("refused [0-9]+", write_cases.read_and_written()[1].decode())),
+    }
+    refusals = {"areas_main": (1, 2, 3, 4, 5, 7), "verdicts_main": range(1, 7), "files_main": range(1, 12)}
+    for crate, numbers in refusals.items():
+        wanted = {"refused %d" % number for number in numbers}
+        wanted |= {"inside", "outside", "undecided"} if crate == "verdicts_main" else set()
+        report.same("files: every answer of the drivers is met", met[crate], wanted, crate)
+
+
 def random_files(report, generator, count):
     """The reader against the grammar, short buffers, and reading and writing again. Returns how often each cause was met."""
     met = {}
     for _ in range(count):
-        data = random_file(generator)
+        data = cases.random_file(generator)
         refusal, boxes, plugs = files.parsed(data)
         met[refusal and refusal[0]] = met.get(refusal and refusal[0], 0) + 1
         report.same("files: well formed = grammar", refusal is None, FILE_PATTERN.fullmatch(data) is not None, data)
@@ -665,6 +656,7 @@ def main():
     found, wanted = brute_force(report, generator, 600, 1500, tiny_words)
     file_examples(report)
     met = random_files(report, generator, 6000)
+    written_files(report)
     sizes = full_rounds(report, generator, full_words)
     for part, count in report.counts.items():
         print("%8d  %s" % (count, part))

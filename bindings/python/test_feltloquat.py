@@ -140,21 +140,55 @@ class Random(unittest.TestCase):
 
     def test_refusals(self):
         generator = cases.Generator(SEED)
-        causes = dict.fromkeys(range(1, 7), 0)
+        causes = {}
         start = time.time()
-        for number in range(ROUNDS // 4):
+        for number in range(ROUNDS // 16):
             boxes, plug = cases.small_round(generator)
             for _ in range(1 + generator.below(2)):
                 boxes, plug = self.spoilt(generator, boxes, plug)
             case = "seed %d, round %d: boxes %s, plug %s" % (SEED, number, boxes[:40], plug)
-            wanted = rounds.check_boxes(boxes) or rounds.check_plug(tuple(plug))
-            if wanted is None:
-                continue
-            self.assertEqual(answer_of(feltloquat.verdict, boxes, *plug), ("refused",) + wanted, case)
-            self.assertEqual(answer_of(feltloquat.word, boxes, *plug), ("refused",) + wanted, case)
-            causes[wanted[0]] += 1
-        self.assertNotIn(0, causes.values())
+            for call, cause in self.refused_calls(generator, boxes, plug, case):
+                causes.setdefault(call, set()).add(cause)
+        self.assertEqual(
+            causes,
+            {
+                "verdict": {1, 2, 3, 4, 5, 6},
+                "word": {1, 2, 3, 4, 5, 6},
+                "verdict_on_records": {2, 3, 4, 5, 6},
+                "outer_polygon": {1, 2, 3, 4, 5, 7},
+                "corner_polygons": {1, 2, 3, 4, 5, 7},
+                "write_round": {1, 2, 3, 4, 5, 6, 7},
+            },
+        )
         print("refusals, seed %d: agreed %s, %.1f s" % (SEED, causes, time.time() - start))
+
+    def refused_calls(self, generator, boxes, plug, case):
+        """Every call that checks boxes, where it is refused, with its cause. The answer is the refusal, and the lent buffer is as it was."""
+        refusal = rounds.check_boxes(boxes) or rounds.check_plug(tuple(plug))
+        if refusal is not None:
+            for name in ("verdict", "word"):
+                self.assertEqual(answer_of(getattr(feltloquat, name), boxes, *plug), ("refused",) + refusal, case)
+                yield name, refusal[0]
+            if len(boxes) % 4 == 0:
+                records = rounds.records_of(boxes)
+                self.assertEqual(rounds.verdict_records(records, tuple(plug)), ("refused",) + refusal, case)
+                self.assertEqual(answer_of(feltloquat.verdict_on_records, records, *plug), ("refused",) + refusal, case)
+                yield "verdict_on_records", refusal[0]
+        before = list(range(100, 100 + max(2 * len(boxes) - generator.below(2), 0)))
+        refusal = rounds.check_polygon_call(boxes, before)
+        if refusal is not None:
+            for name in ("outer_polygon", "corner_polygons"):
+                after = list(before)
+                self.assertEqual(answer_of(getattr(feltloquat, name + "_into"), boxes, after), ("refused",) + refusal, case)
+                self.assertEqual(after, before, case)
+                yield name, refusal[0]
+        plugs, before = list(plug) + [0] * generator.below(2), bytes(range(100, 100 + generator.below(60)))
+        wanted, buffer = files.write_into(boxes, plugs, before)
+        if wanted[0] == "refused":
+            after = bytearray(before)
+            self.assertEqual(answer_of(feltloquat.write_round_into, boxes, plugs, after), wanted, case)
+            self.assertEqual((bytes(after), buffer), (before, before), case)
+            yield "write_round", wanted[1]
 
     def spoilt(self, generator, boxes, plug):
         """A round with one more fault."""

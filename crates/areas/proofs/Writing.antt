@@ -1,23 +1,23 @@
 -- Numbers that a loop writes over the front of a buffer, and one writer behind another. Assumes nothing.
 use mathlib.Core.Path.{_≡_, refl, sym, _∙_, ap, ap₂}
-use mathlib.Core.List.{List, [], _∷_, _++_}
+use mathlib.Core.List.{List, [], _∷_, _++_, append-assoc}
 use Prim.Native.Nat.{ℕ, zero, suc, _+_, _-_, _*_, _≤_, _<_}
 use native.Mathlib.Omega.{arith}
 use lib.IntN.{ℤ, pos}
 use lib.ListN.{length, getD, take, drop, set, length-append}
-use lib.Seq.{take-all, take-at, drop-drop, drop-append-add}
+use lib.Seq.{length-take-le, take-all, take-at, drop-drop, drop-append-add}
 use Rattle.plane.specs.Points.{Point}
 use Rattle.integers.proofs.Parts.{over-more, then-write}
-use Rattle.areas.specs.Buffers.{flat, zeros, over, answered}
+use Rattle.areas.specs.Buffers.{flat, zeros, overFront, answered}
 
--- ---- a loop that writes s over d, number by number
+-- ---- a loop that writes s overFront d, number by number
 
 -- the first j are written
 abbrev pub partly : List ℤ → List ℤ → ℕ → List ℤ
 partly s d j = take j s ++ drop j d
 
 -- all are written
-pub partly-all : (s d : List ℤ) (j : ℕ) → j ≡ length s → partly s d j ≡ over s d
+pub partly-all : (s d : List ℤ) (j : ℕ) → j ≡ length s → partly s d j ≡ overFront s d
 partly-all s d j e = rw e (ap (λ l. l ++ drop (length s) d) (take-all (length s) s (omega arith)))
 
 -- one more, and two more
@@ -60,11 +60,17 @@ flat-north z (v ∷ vs) (suc i) h =
 -- ---- one writer behind another
 
 -- b is written behind a, which stands in front of xs
-pub over-behind : (a b d xs : List ℤ) (k : ℕ) → length a ≡ k → k ≤ length d → xs ≡ over a d → take k xs ++ over b (drop k xs) ≡ over (a ++ b) d
+pub over-behind : (a b d xs : List ℤ) (k : ℕ) → length a ≡ k → k ≤ length d → xs ≡ overFront a d → take k xs ++ overFront b (drop k xs) ≡ overFront (a ++ b) d
 over-behind a b d xs k e h p = rw (p, ← e) (then-write d a b (omega arith)) ∙ ap (λ n. (a ++ b) ++ drop n d) (sym (length-append a b))
 
+-- s behind the first k, which are unchanged, is both together over the front
+pub over-part : (k : ℕ) (s d : List ℤ) → k ≤ length d → overFront (take k d ++ s) d ≡ take k d ++ overFront s (drop k d)
+over-part k s d h =
+    let e : length (take k d ++ s) ≡ k + length s = simp length-append (omega (arith, length-take-le k d h)) in
+    append-assoc (take k d) s (drop (length (take k d ++ s)) d) ∙ ap (λ n. take k d ++ (s ++ drop n d)) e ∙ ap (λ l. take k d ++ (s ++ l)) (sym (drop-drop (length s) k d))
+
 -- zeros up to n behind the vertices
-pub zeros-behind : (vs : List Point) (d xs : List ℤ) (n k : ℕ) → length vs * 2 ≡ k → k ≤ n → xs ≡ over (flat vs) d → take k xs ++ zeros (n - k) ++ drop n xs ≡ answered n vs d
+pub zeros-behind : (vs : List Point) (d xs : List ℤ) (n k : ℕ) → length vs * 2 ≡ k → k ≤ n → xs ≡ overFront (flat vs) d → take k xs ++ zeros (n - k) ++ drop n xs ≡ answered n vs d
 zeros-behind vs d xs n k e h p =
     rw (p, take-at (flat vs) (drop (length (flat vs)) d) k long)
     (let m : n - k ≡ n - 2 * length vs = omega arith in ap₂ (λ m rest. flat vs ++ zeros m ++ rest) m beyond)
@@ -72,8 +78,8 @@ zeros-behind vs d xs n k e h p =
     long : length (flat vs) ≡ k
     long = flat-length vs ∙ e
 
-    beyond : drop n (over (flat vs) d) ≡ drop n d
+    beyond : drop n (overFront (flat vs) d) ≡ drop n d
     beyond =
         let s : n ≡ length (flat vs) + (n - k) = omega (arith, long) in
-        ap (λ m. drop m (over (flat vs) d)) s ∙ drop-append-add (flat vs) (drop (length (flat vs)) d) (n - k)
+        ap (λ m. drop m (overFront (flat vs) d)) s ∙ drop-append-add (flat vs) (drop (length (flat vs)) d) (n - k)
         ∙ drop-drop (n - k) (length (flat vs)) d ∙ ap (λ m. drop m d) (sym s)

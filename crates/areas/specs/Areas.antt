@@ -8,12 +8,13 @@ use Rattle.plane.specs.Points.{Point}
 use Rattle.plane.specs.Polygons.{Polygon}
 use Rattle.rounds.specs.Boxes.{boxesOf, cornersOf, allCorners}
 use Rattle.rounds.specs.Refusals.{Fault, none, fault, refusalFault, areaFault}
+use Rattle.rounds.specs.declared.Cause.{Cause}
 use Rattle.rounds.specs.declared.Corner.the-variants.{SouthWest, SouthEast, NorthEast, NorthWest}
 use Rattle.areas.specs.declared.OuterReply.{OuterReply}
 use Rattle.areas.specs.declared.CornersReply.{CornersReply}
 use Rattle.areas.specs.Buffers.{answered}
 
--- the paper's number and place for each case of a reply: none where vertices are counted
+-- the fault that each case of a reply means: none where vertices are counted
 abbrev pub outerFault : OuterReply → Fault
 outerFault (OuterReply.Vertices count) = none
 outerFault (OuterReply.Refused refusal) = refusalFault refusal
@@ -49,11 +50,11 @@ pub record CornersListed (boxes before : List ℤ) (reply : CornersReply) (after
 -- the promise of outer_polygon: the refusal that document 01's order gives and no other, the buffer then as it was; else the outer polygon
 pub record OuterPromise (boxes before : List ℤ) (reply : OuterReply) (after : List ℤ) : Type 0 where
   pub cause : outerFault reply ≡ areaFault boxes (length before)
-  pub kept : (number place : ℕ) → areaFault boxes (length before) ≡ fault number place → after ≡ before
+  pub kept : (c : Cause) (place : ℕ) → areaFault boxes (length before) ≡ fault c place → after ≡ before
   pub listed : areaFault boxes (length before) ≡ none → OuterListed boxes before reply after
 
 -- the promise of corner_polygons, likewise
 pub record CornersPromise (boxes before : List ℤ) (reply : CornersReply) (after : List ℤ) : Type 0 where
   pub cause : cornersFault reply ≡ areaFault boxes (length before)
-  pub kept : (number place : ℕ) → areaFault boxes (length before) ≡ fault number place → after ≡ before
+  pub kept : (c : Cause) (place : ℕ) → areaFault boxes (length before) ≡ fault c place → after ≡ before
   pub listed : areaFault boxes (length before) ≡ none → CornersListed boxes before reply after

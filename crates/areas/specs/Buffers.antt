@@ -6,6 +6,13 @@ use lib.IntN.{ℤ, pos}
 use lib.ListN.{length, take, drop, replicate}
 use Rattle.plane.specs.Points.{Point}
 use Rattle.plane.specs.Polygons.{Polygon}
+use Rattle.rounds.specs.Boxes.{cornersOf}
+use Rattle.rounds.specs.Refusals.{none}
+use Rattle.rounds.specs.Replies.{bufferUnder}
+use Rattle.rounds.specs.declared.Box.{Box}
+use Rattle.rounds.specs.declared.Corner.the-variants.{SouthWest, SouthEast, NorthEast, NorthWest}
+use Rattle.outlines.specs.declared.TwoCounts.{TwoCounts}
+use Rattle.areas.specs.declared.VertexCounts.{VertexCounts}
 
 -- document 01's "east and north per vertex"
 unfoldable pub flat : List Point → List ℤ
@@ -17,17 +24,41 @@ abbrev pub zeros : ℕ → List ℤ
 zeros n = replicate n (pos 0)
 
 -- numbers written over the front of a buffer; those behind them are unchanged
-abbrev pub over : List ℤ → List ℤ → List ℤ
-over numbers before = numbers ++ drop (length numbers) before
+abbrev pub overFront : List ℤ → List ℤ → List ℤ
+overFront numbers before = bufferUnder none numbers before
 
 -- the answer in a buffer: the vertices; after the last of them zeros, up to the numbers needed; those beyond are unchanged
 abbrev pub answered : ℕ → List Point → List ℤ → List ℤ
 answered needed vertices before = flat vertices ++ zeros (needed - 2 * length vertices) ++ drop needed before
 
--- the polygon of the points qs, its start left open, written over a buffer behind its first `from` numbers, which are unchanged; count is how many vertices it has
-pub record PolygonWritten (qs : List Point) (from : ℕ) (before : List ℤ) (count : ℕ) (after : List ℤ) : Type 0 where
-  pub vertices : List Point
+-- a polygon of the points qs, its start left open, and how many vertices it has
+pub record PolygonCounted (qs vertices : List Point) (count : ℕ) : Type 0 where
   pub polygon : Polygon qs vertices
   pub counted : count ≡ length vertices
   pub few : count ≤ length qs
-  pub buffer : after ≡ take from before ++ over (flat vertices) (drop from before)
+
+-- the polygon of the points qs is written over a buffer behind its first `from` numbers, which are unchanged
+pub record PolygonWritten (qs : List Point) (from : ℕ) (before : List ℤ) (count : ℕ) (after : List ℤ) : Type 0 where
+  pub vertices : List Point
+  pub made : PolygonCounted qs vertices count
+  pub buffer : after ≡ take from before ++ overFront (flat vertices) (drop from before)
+
+-- likewise the polygon of the points qs, and behind it that of the points rs
+pub record TwoWritten (qs rs : List Point) (from : ℕ) (before : List ℤ) (counts : TwoCounts) (after : List ℤ) : Type 0 where
+  pub vs : List Point
+  pub ws : List Point
+  pub first : PolygonCounted qs vs (counts .first)
+  pub second : PolygonCounted rs ws (counts .second)
+  pub buffer : after ≡ take from before ++ overFront (flat (vs ++ ws)) (drop from before)
+
+-- the corner polygons of the boxes are written over the front of a buffer, one behind another
+pub record CornersWritten (bs : List Box) (before : List ℤ) (counts : VertexCounts) (after : List ℤ) : Type 0 where
+  pub sw : List Point
+  pub se : List Point
+  pub ne : List Point
+  pub nw : List Point
+  pub southwest : PolygonCounted (cornersOf SouthWest bs) sw (counts .southwest)
+  pub southeast : PolygonCounted (cornersOf SouthEast bs) se (counts .southeast)
+  pub northeast : PolygonCounted (cornersOf NorthEast bs) ne (counts .northeast)
+  pub northwest : PolygonCounted (cornersOf NorthWest bs) nw (counts .northwest)
+  pub buffer : after ≡ overFront (flat (sw ++ se ++ ne ++ nw)) before

@@ -6,13 +6,27 @@ ghost use Prim.Native.Nat.{_+_, _-_, _*_, _/_, _≤_};
 ghost use lib.ListN.{length, take, drop};
 ghost use Rattle.plane.specs.Members.{All};
 ghost use Rattle.turns.specs.Keys.{Key, pointOf};
-ghost use Rattle.rounds.specs.Boxes.{boxesOf, cornersOf, allCorners};
-ghost use Rattle.rounds.specs.Refusals.{none, _orElse_, faultOf, boxListFault, bufferFault, areaFault};
-ghost use Rattle.areas.specs.Buffers.{flat, zeros, over, PolygonWritten};
+ghost use Rattle.rounds.specs.Boxes.{boxesOf, cornersOf, allCorners, BoxList};
+ghost use Rattle.rounds.specs.Refusals.{faultOf, areaFault};
+ghost use Rattle.outlines.specs.Outlines.{ScratchFor};
+ghost use Rattle.areas.specs.Buffers.{flat, zeros, overFront, PolygonWritten, TwoWritten, CornersWritten};
 ghost use Rattle.areas.specs.Areas.{needed, OuterListed, CornersListed, OuterPromise, CornersPromise};
+use outlines::TwoCounts;
 use rounds::Checked;
 use rounds::Corner;
+use rounds::MOST_BOXES;
+use rounds::MOST_NUMBERS;
 use rounds::Refusal;
+
+// Scratch has one of three sizes, so that few boxes zero little of it: for these many boxes, which have four times as
+// many numbers and corners; for these; and for the most that a round has.
+const FEW_BOXES: usize = 32;
+
+const FEW_NUMBERS: usize = 128;
+
+const SOME_BOXES: usize = 256;
+
+const SOME_NUMBERS: usize = 1024;
 
 // What the call for the outer polygon answers: how many vertices it has.
 pub enum OuterReply {
@@ -34,43 +48,19 @@ pub enum CornersReply {
     Refused(Refusal),
 }
 
-// Checks that a lent buffer has the numbers that are needed: 7.
-fn check_buffer(numbers: usize, given: usize) -> Checked
-    ensures { λ r. ⌜ faultOf r ≡ bufferFault numbers given ⌝ }
-{
-    if given < numbers {
-        return Checked::Refused(Refusal {
-            number: 7,
-            place: numbers,
-        });
-    }
-    Checked::Accepted
-}
-
-// The first refusal of two checks that there is.
-fn first_refusal(first: Checked, second: Checked) -> Checked
-    ensures { λ r. ⌜ faultOf r ≡ faultOf first orElse faultOf second ⌝ }
-{
-    match first {
-        Checked::Accepted => second,
-        Checked::Refused(refusal) => Checked::Refused(refusal),
-    }
-}
-
 // Checks what both calls are lent: the boxes, then a buffer of 8 × N numbers.
 fn check_area(boxes: &[i32], given: usize) -> Checked
     ensures { λ r. ⌜ faultOf r ≡ areaFault (now (boxes .entry)) given ⌝ }
 {
-    let listed = rounds::check_boxes(boxes);
-    let measured = check_buffer(boxes.len() / 4 * 8, given);
-    first_refusal(listed, measured)
+    let listed = checks::check_boxes(boxes);
+    let measured = checks::check_buffer(boxes.len() / 4 * 8, given);
+    checks::first_refusal(listed, measured)
 }
 
 // Writes east and north of each key's point over the front of answer.
 fn write_vertices(keys: &[u32], answer: &mut [i32])
-    requires { ⌜ All Key (now keys) ⌝ }
-    requires { ⌜ length (now keys) * 2 ≤ length (now answer) ⌝ }
-    ensures { λ _. ⌜ now (answer .exit) ≡ over (flat (map pointOf (now (keys .entry)))) (now (answer .entry)) ⌝ }
+    requires { ⌜ All Key (now keys) × (length (now keys) * 2 ≤ length (now answer)) ⌝ }
+    ensures { λ _. ⌜ now (answer .exit) ≡ overFront (flat (map pointOf (now (keys .entry)))) (now (answer .entry)) ⌝ }
 {
     let count = keys.len();
     let mut k: usize = 0;
@@ -85,7 +75,8 @@ fn write_vertices(keys: &[u32], answer: &mut [i32])
 // Writes zeros over answer from the number at `from` on, up to the one before `to`.
 fn clear(from: usize, to: usize, answer: &mut [i32])
     requires { ⌜ (from ≤ to) × (to ≤ length (now answer)) ⌝ }
-    ensures { λ _. ⌜ now (answer .exit) ≡ take from (now (answer .entry)) ++ zeros (to - from) ++ drop to (now (answer .entry)) ⌝ }
+    ensures { λ _. ⌜ now (answer .exit) ≡
+        take from (now (answer .entry)) ++ zeros (to - from) ++ drop to (now (answer .entry)) ⌝ }
 {
     let mut k = from;
     while k < to {
@@ -94,72 +85,187 @@ fn clear(from: usize, to: usize, answer: &mut [i32])
     }
 }
 
-// Writes the polygon of that one corner of every box over the front of answer, with lent scratch for its keys. What the scratch holds is lost.
-fn write_corner_in(boxes: &[i32], corner: Corner, keys: &mut [u32], answer: &mut [i32]) -> usize
-    requires { ⌜ boxListFault (now boxes) ≡ none ⌝ }
-    requires { ⌜ length (now boxes) / 4 ≤ length (now keys) ⌝ }
-    requires { ⌜ length (now boxes) / 4 * 2 ≤ length (now answer) ⌝ }
-    ensures { λ r. ⌜ PolygonWritten (cornersOf corner (boxesOf (now (boxes .entry)))) 0 (now (answer .entry)) r (now (answer .exit)) ⌝ }
+// Writes the outer polygon over the front of answer, in lent scratch. What the scratch holds is lost.
+fn write_outer_in(
+    boxes: &[i32],
+    answer: &mut [i32],
+    vertices: &mut [u32],
+    keys: &mut [u32],
+    mirror: &mut [u32],
+) -> usize
+    requires { ⌜ BoxList (now boxes) × (length (now boxes) * 2 ≤ length (now answer)) ⌝ }
+    requires { ⌜ length (now boxes) ≤ length (now vertices) ⌝ }
+    requires { ⌜ ScratchFor (length (now boxes)) (now keys) (now mirror) ⌝ }
+    ensures { λ r. ⌜ PolygonWritten
+        (allCorners (boxesOf (now (boxes .entry)))) 0 (now (answer .entry)) r (now (answer .exit)) ⌝ }
 {
-    let count = outlines::corner_polygon(boxes, corner, keys);
-    write_vertices(&keys[..count], answer);
-    count
-}
-
-// Writes the polygon of that one corner of every box over the front of answer.
-fn write_corner(boxes: &[i32], corner: Corner, answer: &mut [i32]) -> usize
-    requires { ⌜ boxListFault (now boxes) ≡ none ⌝ }
-    requires { ⌜ length (now boxes) / 4 * 2 ≤ length (now answer) ⌝ }
-    ensures { λ r. ⌜ PolygonWritten (cornersOf corner (boxesOf (now (boxes .entry)))) 0 (now (answer .entry)) r (now (answer .exit)) ⌝ }
-{
-    if boxes.len() <= 256 {
-        let mut keys = [0u32; 64];
-        return write_corner_in(boxes, corner, &mut keys, answer);
-    }
-    let mut keys = [0u32; 1024];
-    write_corner_in(boxes, corner, &mut keys, answer)
-}
-
-// Writes the polygon of that one corner of every box into the part of answer that the first `from` numbers leave free.
-fn append_corner(boxes: &[i32], corner: Corner, from: usize, answer: &mut [i32]) -> usize
-    requires { ⌜ boxListFault (now boxes) ≡ none ⌝ }
-    requires { ⌜ from + length (now boxes) / 4 * 2 ≤ length (now answer) ⌝ }
-    ensures { λ r. ⌜ PolygonWritten (cornersOf corner (boxesOf (now (boxes .entry)))) from (now (answer .entry)) r (now (answer .exit)) ⌝ }
-{
-    write_corner(boxes, corner, &mut answer[from..])
-}
-
-// Writes the outer polygon over the front of answer, with lent scratch for its keys. What the scratch holds is lost.
-fn write_outer_in(boxes: &[i32], keys: &mut [u32], answer: &mut [i32]) -> usize
-    requires { ⌜ boxListFault (now boxes) ≡ none ⌝ }
-    requires { ⌜ length (now boxes) ≤ length (now keys) ⌝ }
-    requires { ⌜ length (now boxes) * 2 ≤ length (now answer) ⌝ }
-    ensures { λ r. ⌜ PolygonWritten (allCorners (boxesOf (now (boxes .entry)))) 0 (now (answer .entry)) r (now (answer .exit)) ⌝ }
-{
-    let count = outlines::outer_polygon(boxes, keys);
-    write_vertices(&keys[..count], answer);
+    let count = outlines::outer_outline(boxes, vertices, keys, mirror);
+    write_vertices(&vertices[..count], answer);
     count
 }
 
 // Writes the outer polygon over the front of answer.
 fn write_outer(boxes: &[i32], answer: &mut [i32]) -> usize
-    requires { ⌜ boxListFault (now boxes) ≡ none ⌝ }
-    requires { ⌜ length (now boxes) * 2 ≤ length (now answer) ⌝ }
-    ensures { λ r. ⌜ PolygonWritten (allCorners (boxesOf (now (boxes .entry)))) 0 (now (answer .entry)) r (now (answer .exit)) ⌝ }
+    requires { ⌜ BoxList (now boxes) × (length (now boxes) * 2 ≤ length (now answer)) ⌝ }
+    ensures { λ r. ⌜ PolygonWritten
+        (allCorners (boxesOf (now (boxes .entry)))) 0 (now (answer .entry)) r (now (answer .exit)) ⌝ }
 {
-    if boxes.len() <= 256 {
-        let mut keys = [0u32; 256];
-        return write_outer_in(boxes, &mut keys, answer);
+    if boxes.len() <= FEW_NUMBERS {
+        let mut vertices = [0u32; FEW_NUMBERS];
+        let mut keys = [0u32; FEW_NUMBERS];
+        let mut mirror = [0u32; FEW_NUMBERS];
+        return write_outer_in(boxes, answer, &mut vertices, &mut keys, &mut mirror);
     }
-    let mut keys = [0u32; 4096];
-    write_outer_in(boxes, &mut keys, answer)
+    if boxes.len() <= SOME_NUMBERS {
+        let mut vertices = [0u32; SOME_NUMBERS];
+        let mut keys = [0u32; SOME_NUMBERS];
+        let mut mirror = [0u32; SOME_NUMBERS];
+        return write_outer_in(boxes, answer, &mut vertices, &mut keys, &mut mirror);
+    }
+    let mut vertices = [0u32; MOST_NUMBERS];
+    let mut keys = [0u32; MOST_NUMBERS];
+    let mut mirror = [0u32; MOST_NUMBERS];
+    write_outer_in(boxes, answer, &mut vertices, &mut keys, &mut mirror)
+}
+
+// Writes the polygon of that one corner of every box over the front of answer, in lent scratch. What the scratch
+// holds is lost.
+fn write_corner(
+    boxes: &[i32],
+    corner: Corner,
+    answer: &mut [i32],
+    vertices: &mut [u32],
+    keys: &mut [u32],
+    mirror: &mut [u32],
+) -> usize
+    requires { ⌜ BoxList (now boxes) × (length (now boxes) / 4 * 2 ≤ length (now answer)) ⌝ }
+    requires { ⌜ length (now boxes) / 4 ≤ length (now vertices) ⌝ }
+    requires { ⌜ ScratchFor (length (now boxes) / 4) (now keys) (now mirror) ⌝ }
+    ensures { λ r. ⌜ PolygonWritten
+        (cornersOf corner (boxesOf (now (boxes .entry)))) 0 (now (answer .entry)) r (now (answer .exit)) ⌝ }
+{
+    let count = outlines::corner_outline(boxes, corner, vertices, keys, mirror);
+    write_vertices(&vertices[..count], answer);
+    count
+}
+
+// Writes the polygon of that one corner of every box into the part of answer that the first `from` numbers leave free.
+fn append_corner(
+    boxes: &[i32],
+    corner: Corner,
+    from: usize,
+    answer: &mut [i32],
+    vertices: &mut [u32],
+    keys: &mut [u32],
+    mirror: &mut [u32],
+) -> usize
+    requires { ⌜ BoxList (now boxes) × (from + length (now boxes) / 4 * 2 ≤ length (now answer)) ⌝ }
+    requires { ⌜ length (now boxes) / 4 ≤ length (now vertices) ⌝ }
+    requires { ⌜ ScratchFor (length (now boxes) / 4) (now keys) (now mirror) ⌝ }
+    ensures { λ r. ⌜ PolygonWritten
+        (cornersOf corner (boxesOf (now (boxes .entry)))) from (now (answer .entry)) r (now (answer .exit)) ⌝ }
+{
+    write_corner(boxes, corner, &mut answer[from..], vertices, keys, mirror)
+}
+
+// Writes the polygons of two corners of every box, one behind the other, likewise.
+fn append_two_corners(
+    boxes: &[i32],
+    first: Corner,
+    second: Corner,
+    from: usize,
+    answer: &mut [i32],
+    vertices: &mut [u32],
+    keys: &mut [u32],
+    mirror: &mut [u32],
+) -> TwoCounts
+    requires { ⌜ BoxList (now boxes) × (from + length (now boxes) / 4 * 4 ≤ length (now answer)) ⌝ }
+    requires { ⌜ length (now boxes) / 4 ≤ length (now vertices) ⌝ }
+    requires { ⌜ ScratchFor (length (now boxes) / 4) (now keys) (now mirror) ⌝ }
+    ensures { λ r. ⌜ TwoWritten
+        (cornersOf first (boxesOf (now (boxes .entry)))) (cornersOf second (boxesOf (now (boxes .entry))))
+        from (now (answer .entry)) r (now (answer .exit)) ⌝ }
+{
+    let one = append_corner(boxes, first, from, answer, vertices, keys, mirror);
+    let next = from + one * 2;
+    let other = append_corner(boxes, second, next, answer, vertices, keys, mirror);
+    TwoCounts {
+        first: one,
+        second: other,
+    }
+}
+
+// Writes the corner polygons one behind another over the front of answer, in lent scratch. What the scratch holds is
+// lost.
+fn write_corners_in(
+    boxes: &[i32],
+    answer: &mut [i32],
+    vertices: &mut [u32],
+    keys: &mut [u32],
+    mirror: &mut [u32],
+) -> VertexCounts
+    requires { ⌜ BoxList (now boxes) × (needed (now boxes) ≤ length (now answer)) ⌝ }
+    requires { ⌜ length (now boxes) / 4 ≤ length (now vertices) ⌝ }
+    requires { ⌜ ScratchFor (length (now boxes) / 4) (now keys) (now mirror) ⌝ }
+    ensures { λ r. ⌜ CornersWritten (boxesOf (now (boxes .entry))) (now (answer .entry)) r (now (answer .exit)) ⌝ }
+{
+    let south = append_two_corners(
+        boxes,
+        Corner::SouthWest,
+        Corner::SouthEast,
+        0,
+        answer,
+        vertices,
+        keys,
+        mirror,
+    );
+    let next = (south.first + south.second) * 2;
+    let north = append_two_corners(
+        boxes,
+        Corner::NorthEast,
+        Corner::NorthWest,
+        next,
+        answer,
+        vertices,
+        keys,
+        mirror,
+    );
+    VertexCounts {
+        southwest: south.first,
+        southeast: south.second,
+        northeast: north.first,
+        northwest: north.second,
+    }
+}
+
+// Writes the corner polygons one behind another over the front of answer.
+fn write_corners(boxes: &[i32], answer: &mut [i32]) -> VertexCounts
+    requires { ⌜ BoxList (now boxes) × (needed (now boxes) ≤ length (now answer)) ⌝ }
+    ensures { λ r. ⌜ CornersWritten (boxesOf (now (boxes .entry))) (now (answer .entry)) r (now (answer .exit)) ⌝ }
+{
+    if boxes.len() <= FEW_NUMBERS {
+        let mut vertices = [0u32; FEW_BOXES];
+        let mut keys = [0u32; FEW_BOXES];
+        let mut mirror = [0u32; FEW_BOXES];
+        return write_corners_in(boxes, answer, &mut vertices, &mut keys, &mut mirror);
+    }
+    if boxes.len() <= SOME_NUMBERS {
+        let mut vertices = [0u32; SOME_BOXES];
+        let mut keys = [0u32; SOME_BOXES];
+        let mut mirror = [0u32; SOME_BOXES];
+        return write_corners_in(boxes, answer, &mut vertices, &mut keys, &mut mirror);
+    }
+    let mut vertices = [0u32; MOST_BOXES];
+    let mut keys = [0u32; MOST_BOXES];
+    let mut mirror = [0u32; MOST_BOXES];
+    write_corners_in(boxes, answer, &mut vertices, &mut keys, &mut mirror)
 }
 
 // Writes the outer polygon and the zeros after it.
 fn list_outer(boxes: &[i32], answer: &mut [i32]) -> usize
-    requires { ⌜ boxListFault (now boxes) ≡ none ⌝ }
-    requires { ⌜ needed (now boxes) ≤ length (now answer) ⌝ }
-    ensures { λ r. ⌜ OuterListed (now (boxes .entry)) (now (answer .entry)) (OuterReply.Vertices r) (now (answer .exit)) ⌝ }
+    requires { ⌜ BoxList (now boxes) × (needed (now boxes) ≤ length (now answer)) ⌝ }
+    ensures { λ r. ⌜ OuterListed
+        (now (boxes .entry)) (now (answer .entry)) (OuterReply.Vertices r) (now (answer .exit)) ⌝ }
 {
     let count = write_outer(boxes, answer);
     let end = count * 2;
@@ -167,30 +273,20 @@ fn list_outer(boxes: &[i32], answer: &mut [i32]) -> usize
     count
 }
 
-// Writes the corner polygons, each in the part of answer that the earlier ones left free, and the zeros after them.
+// Writes the corner polygons and the zeros after them.
 fn list_corners(boxes: &[i32], answer: &mut [i32]) -> VertexCounts
-    requires { ⌜ boxListFault (now boxes) ≡ none ⌝ }
-    requires { ⌜ needed (now boxes) ≤ length (now answer) ⌝ }
-    ensures { λ r. ⌜ CornersListed (now (boxes .entry)) (now (answer .entry)) (CornersReply.Vertices r) (now (answer .exit)) ⌝ }
+    requires { ⌜ BoxList (now boxes) × (needed (now boxes) ≤ length (now answer)) ⌝ }
+    ensures { λ r. ⌜ CornersListed
+        (now (boxes .entry)) (now (answer .entry)) (CornersReply.Vertices r) (now (answer .exit)) ⌝ }
 {
-    let southwest = append_corner(boxes, Corner::SouthWest, 0, answer);
-    let second = southwest * 2;
-    let southeast = append_corner(boxes, Corner::SouthEast, second, answer);
-    let third = second + southeast * 2;
-    let northeast = append_corner(boxes, Corner::NorthEast, third, answer);
-    let fourth = third + northeast * 2;
-    let northwest = append_corner(boxes, Corner::NorthWest, fourth, answer);
-    let end = fourth + northwest * 2;
+    let counts = write_corners(boxes, answer);
+    let end = (counts.southwest + counts.southeast + counts.northeast + counts.northwest) * 2;
     clear(end, boxes.len() / 4 * 8, answer);
-    VertexCounts {
-        southwest,
-        southeast,
-        northeast,
-        northwest,
-    }
+    counts
 }
 
-// The outer polygon of the boxes, at the front of answer, with how many vertices it has; or a refusal, and answer is as it was.
+// The outer polygon of the boxes, at the front of answer, with how many vertices it has; or a refusal, and answer is
+// as it was.
 pub fn outer_polygon(boxes: &[i32], answer: &mut [i32]) -> OuterReply
     ensures { λ r. ⌜ OuterPromise (now (boxes .entry)) (now (answer .entry)) r (now (answer .exit)) ⌝ }
 {
@@ -202,7 +298,8 @@ pub fn outer_polygon(boxes: &[i32], answer: &mut [i32]) -> OuterReply
     OuterReply::Vertices(count)
 }
 
-// The corner polygons SW, SE, NE, NW of the boxes, one behind another in answer, with how many vertices each has; or a refusal, and answer is as it was.
+// The corner polygons SW, SE, NE, NW of the boxes, one behind another in answer, with how many vertices each has; or a
+// refusal, and answer is as it was.
 pub fn corner_polygons(boxes: &[i32], answer: &mut [i32]) -> CornersReply
     ensures { λ r. ⌜ CornersPromise (now (boxes .entry)) (now (answer .entry)) r (now (answer .exit)) ⌝ }
 {

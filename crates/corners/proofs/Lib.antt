@@ -1,3 +1,3 @@
 -- A corner of a box of a list by the box's place:
---     Edges   the edges that a corner is at are its coordinates
-pub mod Edges
+--     Places   the corner at a place
+pub mod Places

@@ -13,14 +13,14 @@ use mir.ValLaws.{toZ-ofZ, toZ-pos}
 use mir.Facts.{fits-natAbs}
 
 -- −1 less a number, which has the same size
-abbrev flip : ℤ → ℤ
-flip (pos n) = negsuc n
-flip (negsuc n) = pos n
+abbrev complement : ℤ → ℤ
+complement (pos n) = negsuc n
+complement (negsuc n) = pos n
 
-minus-one : (z : ℤ) → negsuc 0 -ℤ z ≡ flip z
+minus-one : (z : ℤ) → negsuc 0 -ℤ z ≡ complement z
 minus-one z = predℤ-+ℤ (pos 0) (negℤ z) ∙ ap predℤ (+ℤ-idl (negℤ z)) ∙ back z
   where
-    back : (z : ℤ) → predℤ (negℤ z) ≡ flip z
+    back : (z : ℤ) → predℤ (negℤ z) ≡ complement z
     back (pos zero) = refl
     back (pos (suc n)) = refl
     back (negsuc n) = refl
@@ -55,7 +55,7 @@ module _ (z : ℤ) (f : SFits w32 z) where
     flipped : negsuc 0 -ℤ toZ w32 (ofZ w32 z) ≡ pos (mag z)
     flipped = let e = toZ-ofZ w32 z f in ap (λ x. negsuc 0 -ℤ x) e ∙ minus-one z ∙ below z (rw e at t)
       where
-        below : (z : ℤ) → leZ (pos 0) z ≡ false → flip z ≡ pos (mag z)
+        below : (z : ℤ) → leZ (pos 0) z ≡ false → complement z ≡ pos (mag z)
         below (pos n) s = no-true (sym s ∙ leb·zero n)
         below (negsuc n) s = refl
 

@@ -8,25 +8,26 @@ use borrow.Author.Tests.{lt-ltb}
 use lib.Dec.{ltb}
 use lib.IntN.{ℤ}
 use lib.ListN.{length}
-use Rattle.rounds.specs.Refusals.{none, fault}
+use Rattle.rounds.specs.Refusals.{none}
 use Rattle.rounds.specs.declared.Refusal.{Refusal}
-use Rattle.files.specs.Format.{boxAt, plugAt}
-use Rattle.files.specs.Content.{Content, contentOf}
-use Rattle.files.specs.Promises.{edges, coordinates}
-use Rattle.files.specs.Steps.{over, Room}
+use Rattle.formats.specs.Format.{markLength, fileBoxAt, filePlugAt}
+use Rattle.formats.specs.Content.{Content, contentOf}
+use Rattle.formats.specs.Promises.{edges, coordinates}
+use Rattle.files.specs.Steps.{over, Room, BuffersFilled}
 use Rattle.files.specs.declared.Record.the-variants.{Box, Plug, Note, End, Refused}
 use Rattle.files.proofs.Over.{Sofar, sofar-none, sofar-more, sofar-all, room, wrote-length}
-use Rattle.files.proofs.Bytes.{length-flat}
-use Rattle.files.proofs.Scan.{scan, from-start, Found, rest-is}
+use Rattle.formats.proofs.Bytes.{length-flat}
+use Rattle.formats.proofs.Scan.{scan, from-start}
+use Rattle.files.proofs.Records.{RecordFound, rest-is}
 
 -- after so many numbers of boxes and of plugs, with the rest to come
-pub record Filled (file : List ℕ) (boxes₀ plugs₀ : List ℤ) (rest : Content) (edge coordinate : ℕ) (boxes plugs : List ℤ) : Type 0 where
+pub record FilledSofar (file : List ℕ) (boxes₀ plugs₀ : List ℤ) (rest : Content) (edge coordinate : ℕ) (boxes plugs : List ℤ) : Type 0 where
   pub well-formed : rest .fault ≡ none
   pub boxes-so : Sofar boxes₀ 0 (flatMap edges (contentOf file .boxes)) (flatMap edges (rest .boxes)) edge boxes
   pub plugs-so : Sofar plugs₀ 0 (flatMap coordinates (contentOf file .plugs)) (flatMap coordinates (rest .plugs)) coordinate plugs
 
 module _ (file : List ℕ) (boxes₀ plugs₀ : List ℤ) where
-  pub filled-start : Room (contentOf file) (length boxes₀) (length plugs₀) → Filled file boxes₀ plugs₀ (scan file 0 (ltb 0 0)) 0 0 boxes₀ plugs₀
+  pub filled-start : Room (contentOf file) (length boxes₀) (length plugs₀) → FilledSofar file boxes₀ plugs₀ (scan file 0 (ltb 0 0)) 0 0 boxes₀ plugs₀
   filled-start r =
       rw (← from-start file)
       (record {
@@ -36,34 +37,34 @@ module _ (file : List ℕ) (boxes₀ plugs₀ : List ℤ) where
       })
 
 module _ {file : List ℕ} {boxes₀ plugs₀ : List ℤ} {at edge coordinate : ℕ} {boxes plugs : List ℤ}
-    (r : Room (contentOf file) (length boxes₀) (length plugs₀)) (i : Filled file boxes₀ plugs₀ (scan file at (ltb 0 coordinate)) edge coordinate boxes plugs) where
+    (r : Room (contentOf file) (length boxes₀) (length plugs₀)) (i : FilledSofar file boxes₀ plugs₀ (scan file at (ltb 0 coordinate)) edge coordinate boxes plugs) where
   -- a box has room, and so has a plug
-  pub room-for-box : {next : ℕ} → Found file at (ltb 0 coordinate) (Box next) → (edge + 4 ≤ length boxes₀) × (length boxes ≡ length boxes₀)
+  pub room-for-box : {next : ℕ} → RecordFound file at (ltb 0 coordinate) (Box next) → (edge + 4 ≤ length boxes₀) × (length boxes ≡ length boxes₀)
   unfolding flatMap
   room-for-box f =
       let s = (rw (rest-is f) at i) .boxes-so in
       (omega (arith, room s (omega (arith, r .for-boxes, length-flat 4 edges (λ b. refl) (contentOf file .boxes)))), wrote-length (s .wrote))
 
-  pub room-for-plug : {next : ℕ} → Found file at (ltb 0 coordinate) (Plug next) → (coordinate + 2 ≤ length plugs₀) × (length plugs ≡ length plugs₀)
+  pub room-for-plug : {next : ℕ} → RecordFound file at (ltb 0 coordinate) (Plug next) → (coordinate + 2 ≤ length plugs₀) × (length plugs ≡ length plugs₀)
   unfolding flatMap
   room-for-plug f =
       let s = (rw (rest-is f) at i) .plugs-so in
       (omega (arith, room s (omega (arith, r .for-plugs, length-flat 2 coordinates (λ p. refl) (contentOf file .plugs)))), wrote-length (s .wrote))
 
   -- a box, a plug, a note
-  pub filled-box : {next : ℕ} {boxes′ : List ℤ} → (f : Found file at (ltb 0 coordinate) (Box next)) → boxes′ ≡ over boxes edge (edges (boxAt file (at + 2)))
-      → Filled file boxes₀ plugs₀ (scan file next (ltb 0 coordinate)) (edge + 4) coordinate boxes′ plugs
+  pub filled-box : {next : ℕ} {boxes′ : List ℤ} → (f : RecordFound file at (ltb 0 coordinate) (Box next)) → boxes′ ≡ over boxes edge (edges (fileBoxAt file (at + markLength)))
+      → FilledSofar file boxes₀ plugs₀ (scan file next (ltb 0 coordinate)) (edge + 4) coordinate boxes′ plugs
   unfolding flatMap
   filled-box {next} f e =
       let j = rw (rest-is f) at i in
       record {
         well-formed = j .well-formed;
-        boxes-so = sofar-more (j .boxes-so) (edges (boxAt file (at + 2))) (flatMap edges (scan file next (ltb 0 coordinate) .boxes)) refl (room-for-box f .0) e;
+        boxes-so = sofar-more (j .boxes-so) (edges (fileBoxAt file (at + markLength))) (flatMap edges (scan file next (ltb 0 coordinate) .boxes)) refl (room-for-box f .0) e;
         plugs-so = j .plugs-so;
       }
 
-  pub filled-plug : {next : ℕ} {plugs′ : List ℤ} → (f : Found file at (ltb 0 coordinate) (Plug next)) → plugs′ ≡ over plugs coordinate (coordinates (plugAt file (at + 2)))
-      → Filled file boxes₀ plugs₀ (scan file next (ltb 0 (coordinate + 2))) edge (coordinate + 2) boxes plugs′
+  pub filled-plug : {next : ℕ} {plugs′ : List ℤ} → (f : RecordFound file at (ltb 0 coordinate) (Plug next)) → plugs′ ≡ over plugs coordinate (coordinates (filePlugAt file (at + markLength)))
+      → FilledSofar file boxes₀ plugs₀ (scan file next (ltb 0 (coordinate + 2))) edge (coordinate + 2) boxes plugs′
   unfolding flatMap
   filled-plug {next} f e =
       let j = rw (rest-is f) at i in
@@ -72,20 +73,16 @@ module _ {file : List ℕ} {boxes₀ plugs₀ : List ℤ} {at edge coordinate : 
       (record {
         well-formed = j .well-formed;
         boxes-so = j .boxes-so;
-        plugs-so = sofar-more (j .plugs-so) (coordinates (plugAt file (at + 2))) (flatMap coordinates (scan file next true .plugs)) refl (room-for-plug f .0) e;
+        plugs-so = sofar-more (j .plugs-so) (coordinates (filePlugAt file (at + markLength))) (flatMap coordinates (scan file next true .plugs)) refl (room-for-plug f .0) e;
       })
 
-  pub filled-note : {next : ℕ} → Found file at (ltb 0 coordinate) (Note next) → Filled file boxes₀ plugs₀ (scan file next (ltb 0 coordinate)) edge coordinate boxes plugs
+  pub filled-note : {next : ℕ} → RecordFound file at (ltb 0 coordinate) (Note next) → FilledSofar file boxes₀ plugs₀ (scan file next (ltb 0 coordinate)) edge coordinate boxes plugs
   filled-note f = let j = rw (rest-is f) at i in record { well-formed = j .well-formed; boxes-so = j .boxes-so; plugs-so = j .plugs-so }
 
   -- the end; and there is no fault
-  pub filled-boxes : Found file at (ltb 0 coordinate) End → boxes ≡ over boxes₀ 0 (flatMap edges (contentOf file .boxes))
+  pub filled-end : RecordFound file at (ltb 0 coordinate) End → BuffersFilled file boxes₀ plugs₀ boxes plugs
   unfolding flatMap
-  filled-boxes f = sofar-all ((rw (rest-is f) at i) .boxes-so) refl
+  filled-end f = let j = rw (rest-is f) at i in record { boxes = sofar-all (j .boxes-so) refl; plugs = sofar-all (j .plugs-so) refl }
 
-  pub filled-plugs : Found file at (ltb 0 coordinate) End → plugs ≡ over plugs₀ 0 (flatMap coordinates (contentOf file .plugs))
-  unfolding flatMap
-  filled-plugs f = sofar-all ((rw (rest-is f) at i) .plugs-so) refl
-
-  pub no-fault : {A : Type 0} {x : Refusal} → Found file at (ltb 0 coordinate) (Refused x) → A
+  pub no-fault : {A : Type 0} {x : Refusal} → RecordFound file at (ltb 0 coordinate) (Refused x) → A
   no-fault f = let e = (rw (rest-is f) at i) .well-formed in let z : _≡_ {A = ℕ} 0 1 = cc in absurd (omega arith)

@@ -6,13 +6,13 @@ use native.Mathlib.Omega.{arith}
 use borrow.Author.Tests.{lt-ltb}
 use lib.Dec.{ltb}
 use lib.ListN.{length}
-use Rattle.rounds.specs.Refusals.{fault}
 use Rattle.rounds.specs.declared.Refusal.{Refusal}
-use Rattle.files.specs.Content.{Content, contentOf}
-use Rattle.rounds.specs.Replies.{result, refused, replyUnder}
-use Rattle.files.specs.Promises.{countsOf}
+use Rattle.formats.specs.Content.{Content, contentOf}
+use Rattle.formats.specs.declared.Reading.the-variants as Reading′
+use Rattle.files.specs.Steps.{judgement}
 use Rattle.files.specs.declared.Record.the-variants.{Box, Plug, Note, End, Refused}
-use Rattle.files.proofs.Scan.{scan, from-start, Found, rest-is, short}
+use Rattle.formats.proofs.Scan.{scan, from-start, short}
+use Rattle.files.proofs.Records.{RecordFound, rest-is}
 
 -- the rest, from an offset on, after so many boxes and plugs
 pub record Judged (file : List ℕ) (boxes plugs : ℕ) (rest : Content) : Type 0 where
@@ -28,36 +28,38 @@ judged-start file = judged-by (from-start file) (record { fault-is = refl; boxes
 
 module _ {file : List ℕ} {at boxes plugs : ℕ} (j : Judged file boxes plugs (scan file at (ltb 0 plugs))) where
   -- a box, a plug, a note
-  pub judged-box : {next : ℕ} → Found file at (ltb 0 plugs) (Box next) → Judged file (boxes + 1) plugs (scan file next (ltb 0 plugs))
+  pub judged-box : {next : ℕ} → RecordFound file at (ltb 0 plugs) (Box next) → Judged file (boxes + 1) plugs (scan file next (ltb 0 plugs))
   judged-box e =
       let i = judged-by (rest-is e) j in
       record { fault-is = i .fault-is; boxes-are = omega (arith, i .boxes-are); plugs-are = i .plugs-are }
 
-  pub judged-plug : {next : ℕ} → Found file at (ltb 0 plugs) (Plug next) → Judged file boxes (plugs + 1) (scan file next (ltb 0 (plugs + 1)))
+  pub judged-plug : {next : ℕ} → RecordFound file at (ltb 0 plugs) (Plug next) → Judged file boxes (plugs + 1) (scan file next (ltb 0 (plugs + 1)))
   judged-plug e =
       let i = judged-by (rest-is e) j in
       let h : 0 < plugs + 1 = omega arith in
       rw (lt-ltb 0 (plugs + 1) h) (record { fault-is = i .fault-is; boxes-are = i .boxes-are; plugs-are = omega (arith, i .plugs-are) })
 
-  pub judged-note : {next : ℕ} → Found file at (ltb 0 plugs) (Note next) → Judged file boxes plugs (scan file next (ltb 0 plugs))
+  pub judged-note : {next : ℕ} → RecordFound file at (ltb 0 plugs) (Note next) → Judged file boxes plugs (scan file next (ltb 0 plugs))
   judged-note e =
       let i = judged-by (rest-is e) j in
       record { fault-is = i .fault-is; boxes-are = i .boxes-are; plugs-are = i .plugs-are }
 
   -- the counts stay below the file's length
-  pub few-boxes : {next : ℕ} → Found file at (ltb 0 plugs) (Box next) → boxes + 1 ≤ length file
+  pub few-boxes : {next : ℕ} → RecordFound file at (ltb 0 plugs) (Box next) → boxes + 1 ≤ length file
   few-boxes e = let i = judged-by (rest-is e) j in omega (arith, i .boxes-are, short file)
 
-  pub few-plugs : {next : ℕ} → Found file at (ltb 0 plugs) (Plug next) → plugs + 1 ≤ length file
+  pub few-plugs : {next : ℕ} → RecordFound file at (ltb 0 plugs) (Plug next) → plugs + 1 ≤ length file
   few-plugs e = let i = judged-by (rest-is e) j in omega (arith, i .plugs-are, short file)
 
   -- the end, and a fault
-  pub judged-end : Found file at (ltb 0 plugs) End → result (record { boxes = boxes; plugs = plugs }) ≡ replyUnder (contentOf file .fault) (countsOf (contentOf file))
+  pub judged-end : RecordFound file at (ltb 0 plugs) End → Reading′.Read (record { boxes = boxes; plugs = plugs }) ≡ judgement file
+  unfolding judgement
   judged-end e =
       let i = judged-by (rest-is e) j in
       let b : length (contentOf file .boxes) ≡ boxes = omega (arith, i .boxes-are) in
       let p : length (contentOf file .plugs) ≡ plugs = omega (arith, i .plugs-are) in
       rw (i .fault-is, b, p)
 
-  pub judged-fault : {r : Refusal} → Found file at (ltb 0 plugs) (Refused r) → refused (r .number) (r .place) ≡ replyUnder (contentOf file .fault) (countsOf (contentOf file))
+  pub judged-fault : {r : Refusal} → RecordFound file at (ltb 0 plugs) (Refused r) → Reading′.Refused r ≡ judgement file
+  unfolding judgement
   judged-fault e = rw (judged-by (rest-is e) j .fault-is)

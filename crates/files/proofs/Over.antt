@@ -1,4 +1,4 @@
--- New elements over those of a list, and writes one after another: `Wrote xs at new out` says that out is xs with new over it from an offset on, and
+-- New elements over those of a list, and writes one after another: `WroteAt xs at new out` says that out is xs with new over it from an offset on, and
 -- `Sofar` that a loop has written so of a whole, with the rest to come. Assumes nothing.
 use mathlib.Core.Path.{_≡_, refl, sym, _∙_, ap}
 use mathlib.Core.List.{List, [], _∷_, _++_, append-nil, append-assoc}
@@ -49,37 +49,37 @@ module _ {A : Type 0} where
 
   -- ---- writes one after another
 
-  pub record Wrote (xs : List A) (at : ℕ) (new out : List A) : Type 0 where
+  pub record WroteAt (xs : List A) (at : ℕ) (new out : List A) : Type 0 where
     pub is : out ≡ over xs at new
     pub fits : at + length new ≤ length xs
 
-  pub wrote-length : {xs : List A} {at : ℕ} {new out : List A} → Wrote xs at new out → length out ≡ length xs
+  pub wrote-length : {xs : List A} {at : ℕ} {new out : List A} → WroteAt xs at new out → length out ≡ length xs
   wrote-length {xs} {at} {new} w = ap length (w .is) ∙ length-over xs at new (w .fits)
 
-  pub wrote-none : (xs : List A) (at : ℕ) → at ≤ length xs → Wrote xs at [] xs
+  pub wrote-none : (xs : List A) (at : ℕ) → at ≤ length xs → WroteAt xs at [] xs
   wrote-none xs at h = record { is = sym (over-none xs at); fits = omega arith }
 
-  module _ {xs : List A} {at : ℕ} {new out : List A} (w : Wrote xs at new out) where
+  module _ {xs : List A} {at : ℕ} {new out : List A} (w : WroteAt xs at new out) where
     -- more, from i on, which is where the last write ended
-    pub then-over : (i : ℕ) (more : List A) {out′ : List A} → i ≡ at + length new → i + length more ≤ length xs → out′ ≡ over out i more → Wrote xs at (new ++ more) out′
+    pub then-over : (i : ℕ) (more : List A) {out′ : List A} → i ≡ at + length new → i + length more ≤ length xs → out′ ≡ over out i more → WroteAt xs at (new ++ more) out′
     then-over i more e h o =
         record {
           is = o ∙ ap (λ n. over out n more) e ∙ ap (λ l. over l (at + length new) more) (w .is) ∙ over-over xs at new more (w .fits);
           fits = rw (length-append new more) (omega arith);
         }
 
-    then-set : (i : ℕ) (a : A) → i ≡ at + length new → i < length xs → Wrote xs at (new ++ (a ∷ [])) (set out i a)
+    then-set : (i : ℕ) (a : A) → i ≡ at + length new → i < length xs → WroteAt xs at (new ++ (a ∷ [])) (set out i a)
     then-set i a e h =
         let l : i < length out = omega (arith, wrote-length w) in
         then-over i (a ∷ []) e (omega arith) (set-over out i a l)
 
   -- two stores and four, one after another; the values may be given by equal ones
-  pub two-sets : (xs : List A) (at : ℕ) {a b a′ b′ : A} → at + 1 < length xs → a ≡ a′ → b ≡ b′ → Wrote xs at (a′ ∷ b′ ∷ []) (set (set xs at a) (at + 1) b)
+  pub two-sets : (xs : List A) (at : ℕ) {a b a′ b′ : A} → at + 1 < length xs → a ≡ a′ → b ≡ b′ → WroteAt xs at (a′ ∷ b′ ∷ []) (set (set xs at a) (at + 1) b)
   two-sets xs at {a} {b} h p q =
       rw (p, q) (then-set (then-set (wrote-none xs at (omega arith)) at _ (omega arith) (omega arith)) (at + 1) _ (omega arith) h)
 
   pub four-sets : (xs : List A) (at : ℕ) {a b c d a′ b′ c′ d′ : A} → at + 3 < length xs → a ≡ a′ → b ≡ b′ → c ≡ c′ → d ≡ d′
-      → Wrote xs at (a′ ∷ b′ ∷ c′ ∷ d′ ∷ []) (set (set (set (set xs at a) (at + 1) b) (at + 2) c) (at + 3) d)
+      → WroteAt xs at (a′ ∷ b′ ∷ c′ ∷ d′ ∷ []) (set (set (set (set xs at a) (at + 1) b) (at + 2) c) (at + 3) d)
   four-sets xs at h p q r s =
       rw (r, s) (then-set (then-set (two-sets xs at (omega arith) p q) (at + 2) _ (omega arith) (omega arith)) (at + 3) _ (omega arith) h)
 
@@ -88,7 +88,7 @@ module _ {A : Type 0} where
   -- so far: written of the whole, up to `to`, with the rest to come
   pub record Sofar (xs : List A) (at : ℕ) (whole rest : List A) (to : ℕ) (out : List A) : Type 0 where
     pub written : List A
-    pub wrote : Wrote xs at written out
+    pub wrote : WroteAt xs at written out
     pub ends : to ≡ at + length written
     pub is : written ++ rest ≡ whole
 

@@ -1,4 +1,4 @@
--- The writer's loops, box by box and plug by plug over flat lists. Assumes nothing.
+-- A record number by number, and the writer's loops, box by box and plug by plug over flat lists. Assumes nothing.
 use mathlib.Core.Path.{_≡_, refl, _∙_, ap, subst}
 use mathlib.Core.List.{List, [], _∷_, _++_, flatMap}
 use Prim.Native.Nat.{ℕ, _+_, _*_, _≤_, _<_}
@@ -9,13 +9,24 @@ use mir.Syntax.{w32}
 use mir.Val.{SFits, toZ, ofZ}
 use mir.ValLaws.{toZ-ofZ}
 use Rattle.plane.specs.Points.{Point, point}
-use Rattle.rounds.specs.Boxes.{Box, box, boxesOf, plugsOf}
-use Rattle.rounds.proofs.Rows.{boxAt, plugAt}
+use Rattle.rounds.specs.Boxes.{boxesOf, boxAt, plugsOf}
+use Rattle.rounds.specs.declared.Box.{Box}
+use Rattle.rounds.proofs.Rows.{plugAt}
 use Rattle.integers.proofs.Parts.{drop-two, drop-four}
-use Rattle.files.specs.Format.{boxRecord, plugRecord}
+use Rattle.formats.specs.Format.{boxLength, plugLength, fourBytes, numberBytes, boxRecord, plugRecord}
 use Rattle.files.specs.Steps.{over}
-use Rattle.files.proofs.Over.{Sofar, sofar-more}
-use Rattle.files.proofs.Bytes.{length-box, length-plug}
+use Rattle.files.proofs.Over.{WroteAt, then-over, Sofar, sofar-more}
+use Rattle.formats.proofs.Bytes.{length-box, length-plug}
+
+-- ---- a number of a record
+
+-- a number after what was written; the callee is passed what is read back from the number's bits
+pub number-then : {xs : List ℕ} {at : ℕ} {new out out′ : List ℕ} → WroteAt xs at new out → (i : ℕ) {z : ℤ} → SFits w32 z → i ≡ at + length new → i + 4 ≤ length xs
+    → out′ ≡ over out i (numberBytes (toZ w32 (ofZ w32 z))) → WroteAt xs at (new ++ numberBytes z) out′
+unfolding numberBytes fourBytes
+number-then {out = out} w i {z} f e h o = then-over w i (numberBytes z) e h (o ∙ ap (λ x. over out i (numberBytes x)) (toZ-ofZ w32 z f))
+
+-- ---- a turn of a loop
 
 -- the records of the boxes and of the plugs of a flat list, from its i-th number on
 abbrev pub boxRecords : List ℤ → ℕ → List ℕ
@@ -24,10 +35,8 @@ boxRecords xs i = flatMap boxRecord (boxesOf (drop i xs))
 abbrev pub plugRecords : List ℤ → ℕ → List ℕ
 plugRecords xs i = flatMap plugRecord (plugsOf (drop i xs))
 
--- ---- a turn
-
 -- elements of a flat list, so many numbers each, and the record of each, which is `size` bytes long
-pub record Rows (E : Type 0) : Type 0 where
+pub record Encoding (E : Type 0) : Type 0 where
   pub numbers : ℕ
   pub size : ℕ
   pub all : List ℤ → List E
@@ -36,11 +45,11 @@ pub record Rows (E : Type 0) : Type 0 where
   pub long : (x : E) → length (bytes x) ≡ size
   pub first : (xs : List ℤ) (i : ℕ) → i + numbers ≤ length xs → all (drop i xs) ≡ row xs i ∷ all (drop (i + numbers) xs)
 
-abbrev pub boxRows : Rows Box
-boxRows =
+abbrev pub boxEncoding : Encoding Box
+boxEncoding =
     record {
       numbers = 4;
-      size = 18;
+      size = boxLength;
       all = boxesOf;
       row = boxAt;
       bytes = boxRecord;
@@ -48,11 +57,11 @@ boxRows =
       first = λ xs i h. ap boxesOf (drop-four (pos 0) xs i (omega arith));
     }
 
-abbrev pub plugRows : Rows Point
-plugRows =
+abbrev pub plugEncoding : Encoding Point
+plugEncoding =
     record {
       numbers = 2;
-      size = 10;
+      size = plugLength;
       all = plugsOf;
       row = plugAt;
       bytes = plugRecord;
@@ -61,7 +70,7 @@ plugRows =
     }
 
 -- element k, counted from 0, is written after those before it
-module _ {E : Type 0} (R : Rows E) (xs : List ℤ) (k : ℕ) {file : List ℕ} {at to to′ : ℕ} {whole out out′ : List ℕ} where
+module _ {E : Type 0} (R : Encoding E) (xs : List ℤ) (k : ℕ) {file : List ℕ} {at to to′ : ℕ} {whole out out′ : List ℕ} where
   pub row-turn : Sofar file at whole (flatMap (R .bytes) (R .all (drop (k * R .numbers) xs))) to out → k * R .numbers + R .numbers ≤ length xs
       → to + R .size ≡ to′ → to′ ≤ length file → out′ ≡ over out to (R .bytes (R .row xs (k * R .numbers)))
       → Sofar file at whole (flatMap (R .bytes) (R .all (drop ((k + 1) * R .numbers) xs))) to′ out′
@@ -100,10 +109,6 @@ module _ (xs : List ℤ) where
 
 -- ---- what a callee is passed
 
--- a box that is passed on is read back from its edges' bits, and so is a plug
-pub box-plain : {w s e n : ℤ} → SFits w32 w → SFits w32 s → SFits w32 e → SFits w32 n
-    → box (toZ w32 (ofZ w32 w)) (toZ w32 (ofZ w32 s)) (toZ w32 (ofZ w32 e)) (toZ w32 (ofZ w32 n)) ≡ box w s e n
-box-plain {w} {s} {e} {n} fw fs fe fn = rw (toZ-ofZ w32 w fw, toZ-ofZ w32 s fs, toZ-ofZ w32 e fe, toZ-ofZ w32 n fn)
-
+-- a plug that is passed on is read back from its coordinates' bits
 pub plug-plain : {e n : ℤ} → SFits w32 e → SFits w32 n → point (toZ w32 (ofZ w32 e)) (toZ w32 (ofZ w32 n)) ≡ point e n
 plug-plain {e} {n} fe fn = rw (toZ-ofZ w32 e fe, toZ-ofZ w32 n fn)

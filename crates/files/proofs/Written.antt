@@ -1,20 +1,19 @@
 -- The writer's promise at each return. Assumes nothing.
 use mathlib.Core.Path.{_≡_, refl, _∙_}
-use mathlib.Core.List.{List, [], _∷_, _++_, flatMap}
-use Prim.Native.Nat.{ℕ, _+_, _*_, _/_, _≤_, _<_, min}
+use mathlib.Core.List.{List, _++_, flatMap}
+use Prim.Native.Nat.{ℕ, _+_, _*_, _/_, _≤_}
 use native.Mathlib.Omega.{arith}
-use borrow.Author.Tests.{lt-ltb, le-ltb}
 use lib.IntN.{ℤ}
-use lib.ListN.{length, set, length-append}
+use lib.ListN.{length, length-append}
 use Rattle.rounds.specs.Boxes.{boxesOf, plugsOf}
-use Rattle.rounds.specs.Refusals.{none, fault, boxListFault, plugListFault, bufferFault, writeFault}
+use Rattle.rounds.specs.Refusals.{Fault, none, refusalFault, _orElse_, boxListFault, plugListFault, bufferFault, writeFault}
 use Rattle.rounds.specs.declared.Refusal.{Refusal}
-use Rattle.files.specs.Format.{boxRecord, plugRecord, endRecord, fileOf}
-use Rattle.files.specs.Promises.{byteCount, writerFault, RoundWritten}
+use Rattle.formats.specs.Format.{endMark, boxLength, plugLength, markBytes, boxRecord, plugRecord, endRecord, fileOf}
+use Rattle.formats.specs.Promises.{byteCount, writerFault, RoundWritten}
+use Rattle.formats.specs.declared.Writing.the-variants.{Written, Refused}
+use Rattle.formats.proofs.Bytes.{length-boxes, length-plugs, length-end}
 use Rattle.files.specs.Steps.{over}
-use Rattle.files.specs.declared.Writing.the-variants.{Written, Refused}
-use Rattle.files.proofs.Over.{over-front, Wrote, wrote-none, wrote-length, then-over, two-sets}
-use Rattle.files.proofs.Bytes.{length-boxes, length-plugs}
+use Rattle.files.proofs.Over.{over-front, WroteAt, wrote-none, then-over}
 
 -- the records of the boxes and of the plugs of two flat lists, and the offsets after them
 abbrev boxBytes : List ℤ → List ℕ
@@ -24,55 +23,55 @@ abbrev plugBytes : List ℤ → List ℕ
 plugBytes plugs = flatMap plugRecord (plugsOf plugs)
 
 abbrev afterBoxes : List ℤ → ℕ
-afterBoxes boxes = 18 * (length boxes / 4)
+afterBoxes boxes = boxLength * (length boxes / 4)
 
 abbrev afterPlugs : List ℤ → List ℤ → ℕ
-afterPlugs boxes plugs = afterBoxes boxes + 10 * (length plugs / 2)
+afterPlugs boxes plugs = afterBoxes boxes + plugLength * (length plugs / 2)
+
+-- ---- refusals
 
 module _ (boxes plugs : List ℤ) (file : List ℕ) where
-  -- under a fault
-  turned-back : {n p : ℕ} → writerFault boxes plugs file ≡ fault n p → RoundWritten boxes plugs file (Refused (record { number = n; place = p })) file
+  turned-back : {r : Refusal} → writerFault boxes plugs file ≡ refusalFault r → RoundWritten boxes plugs file (Refused r) file
   turned-back e = record { reply = rw e; file = rw e }
 
-  pub refused-by-boxes : {r : Refusal} → boxListFault boxes ≡ fault (r .number) (r .place) → RoundWritten boxes plugs file (Refused r) file
+  -- by the fault of both lists, then by that of the buffer
+  in-turn : writerFault boxes plugs file ≡ ((boxListFault boxes orElse plugListFault plugs) orElse bufferFault (byteCount boxes plugs) (length file))
   unfolding writerFault writeFault
-  refused-by-boxes e = turned-back (simp e)
+  in-turn = one-by-one (boxListFault boxes) (plugListFault plugs) (bufferFault (byteCount boxes plugs) (length file))
+    where
+      one-by-one : (f g h : Fault) → (f orElse g orElse h) ≡ ((f orElse g) orElse h)
+      one-by-one none g h = refl
+      one-by-one (Fault.fault c p) g h = refl
 
-  pub refused-by-plugs : {r : Refusal} → boxListFault boxes ≡ none → plugListFault plugs ≡ fault (r .number) (r .place) → RoundWritten boxes plugs file (Refused r) file
-  unfolding writerFault writeFault
-  refused-by-plugs e i = turned-back (simp (e, i))
+  pub refused-by-lists : {r : Refusal} → (boxListFault boxes orElse plugListFault plugs) ≡ refusalFault r → RoundWritten boxes plugs file (Refused r) file
+  refused-by-lists e = turned-back (in-turn ∙ rw e)
 
-  module _ (e : boxListFault boxes ≡ none) (i : plugListFault plugs ≡ none) where
-    pub refused-by-length : {n : ℕ} → byteCount boxes plugs ≡ n → n < 18446744073709551616 → length file < n
-        → RoundWritten boxes plugs file (Refused (record { number = 7; place = n })) file
-    unfolding writerFault writeFault bufferFault
-    refused-by-length {n} c l h = let m : min n 18446744073709551615 ≡ n = omega arith in turned-back (simp (e, i, c, lt-ltb _ _ h, m))
+  module _ (l : (boxListFault boxes orElse plugListFault plugs) ≡ none) where
+    pub refused-by-length : {r : Refusal} → bufferFault (byteCount boxes plugs) (length file) ≡ refusalFault r → RoundWritten boxes plugs file (Refused r) file
+    refused-by-length e = turned-back (in-turn ∙ rw (l, e))
 
-    no-fault : {n : ℕ} → byteCount boxes plugs ≡ n → n ≤ length file → writerFault boxes plugs file ≡ none
-    unfolding writerFault writeFault bufferFault
-    no-fault c h = simp (e, i, c, le-ltb _ _ h)
+-- ---- boxes, plugs and end, one after another
 
-  -- boxes, plugs and end, one after another
-  module _ {out : List ℕ} (h : afterPlugs boxes plugs + 2 ≤ length file) (e : out ≡ over file 0 (boxBytes boxes)) where
-    boxes-written : Wrote file 0 (boxBytes boxes) out
-    boxes-written = then-over (wrote-none file 0 (omega arith)) 0 (boxBytes boxes) (omega arith) (omega (arith, length-boxes boxes)) e
+module _ (boxes plugs : List ℤ) (file : List ℕ) {out : List ℕ} (h : byteCount boxes plugs ≤ length file) (e : out ≡ over file 0 (boxBytes boxes)) where
+  boxes-written : WroteAt file 0 (boxBytes boxes) out
+  unfolding byteCount
+  boxes-written = then-over (wrote-none file 0 (omega arith)) 0 (boxBytes boxes) (omega arith) (omega (arith, length-boxes boxes)) e
 
-    module _ {out′ : List ℕ} (i : out′ ≡ over out (afterBoxes boxes) (plugBytes plugs)) where
-      pub plugs-written : Wrote file 0 (boxBytes boxes ++ plugBytes plugs) out′
-      plugs-written = then-over boxes-written (afterBoxes boxes) (plugBytes plugs) (omega (arith, length-boxes boxes)) (omega (arith, length-plugs plugs)) i
+  module _ {out′ : List ℕ} (i : out′ ≡ over out (afterBoxes boxes) (plugBytes plugs)) where
+    plugs-written : WroteAt file 0 (boxBytes boxes ++ plugBytes plugs) out′
+    unfolding byteCount
+    plugs-written = then-over boxes-written (afterBoxes boxes) (plugBytes plugs) (omega (arith, length-boxes boxes)) (omega (arith, length-plugs plugs)) i
 
-      end-written : Wrote file 0 (fileOf (boxesOf boxes) (plugsOf plugs)) (set (set out′ (afterPlugs boxes plugs) 0x5B) (afterPlugs boxes plugs + 1) 0x00)
-      unfolding fileOf endRecord
+    module _ {out″ : List ℕ} (j : out″ ≡ over out′ (afterPlugs boxes plugs) (markBytes endMark)) where
+      end-written : WroteAt file 0 (fileOf (boxesOf boxes) (plugsOf plugs)) out″
+      unfolding fileOf endRecord byteCount
       end-written =
-          let at = afterPlugs boxes plugs in
           let l = length-append (boxBytes boxes) (plugBytes plugs) in
-          let w = wrote-length plugs-written in
-          then-over plugs-written at (0x5B ∷ 0x00 ∷ []) (omega (arith, length-boxes boxes, length-plugs plugs, l)) (omega arith) (two-sets out′ at (omega arith) refl refl .is)
+          then-over plugs-written (afterPlugs boxes plugs) (markBytes endMark) (omega (arith, length-boxes boxes, length-plugs plugs, l)) (omega (arith, length-end)) j
 
       -- all of it
-      pub was-written : {n : ℕ} → boxListFault boxes ≡ none → plugListFault plugs ≡ none → byteCount boxes plugs ≡ n
-          → RoundWritten boxes plugs file (Written n) (set (set out′ (afterPlugs boxes plugs) 0x5B) (afterPlugs boxes plugs + 1) 0x00)
-      unfolding byteCount
-      was-written {n} f g c =
-          let z = no-fault f g c (omega arith) in
-          record { reply = rw (z, c); file = rw z (end-written .is ∙ over-front file (fileOf (boxesOf boxes) (plugsOf plugs))) }
+      pub was-written : (boxListFault boxes orElse plugListFault plugs) ≡ none → bufferFault (byteCount boxes plugs) (length file) ≡ none
+          → RoundWritten boxes plugs file (Written (byteCount boxes plugs)) out″
+      was-written f g =
+          let z : writerFault boxes plugs file ≡ none = in-turn boxes plugs file ∙ rw (f, g) in
+          record { reply = rw z; file = rw z (end-written .is ∙ over-front file (fileOf (boxesOf boxes) (plugsOf plugs))) }

@@ -1,9 +1,8 @@
-// The round file of document 01: reading one into lent buffers, and writing one. No public call has a `requires`.
+// The reader and the writer of document 01's round file. No public call has a `requires`.
 //
-// The reader goes through a file twice, each time by `next_record`: it judges the form and counts, and changes nothing; then the buffers
-// are measured; then it fills them. The writer checks, measures and writes.
-use rounds::Checked;
-use rounds::Refusal;
+// The reader goes through a file twice, each time by `next_record`: it judges the form and counts, and changes nothing;
+// then the buffers are measured; then it fills them. The writer checks, measures and writes. What a file is and what
+// both calls promise is said in crate `formats`.
 ghost use Prim.Native.Nat.{_+_, _*_, _/_, _≤_, _<_};
 ghost use mathlib.Core.Bool.{false};
 ghost use mathlib.Core.Path.{_≡_};
@@ -12,30 +11,62 @@ ghost use lib.ListN.{length};
 ghost use mir.Syntax.{w32};
 ghost use mir.Val.{ofZ, toZ};
 ghost use Rattle.plane.specs.Points.{point};
-ghost use Rattle.rounds.specs.Boxes.{box, boxesOf, plugsOf};
-ghost use Rattle.files.specs.Format.{numberBytes, boxRecord, plugRecord, markAt, numberAt, boxAt, plugAt, noteKind};
-ghost use Rattle.files.specs.Content.{stopsBefore, contentOf};
-ghost use Rattle.rounds.specs.Replies.{replyUnder};
-ghost use Rattle.files.specs.Promises.{readingReply, countsOf, edges, coordinates, RoundRead, RoundWritten};
-ghost use Rattle.files.specs.Steps.{refusedOr, recordOf, recordAt, over, Room};
+ghost use Rattle.rounds.specs.Boxes.{boxesOf, plugsOf};
+ghost use Rattle.formats.specs.Format.{markLength, boxLength, plugLength, noteKind};
+ghost use Rattle.formats.specs.Format.{markBytes, numberBytes, boxRecord, plugRecord};
+ghost use Rattle.formats.specs.Format.{markAt, numberAt, fileBoxAt, filePlugAt};
+ghost use Rattle.formats.specs.Content.{stopsBefore, contentOf};
+ghost use Rattle.formats.specs.Promises.{edges, coordinates, RoundRead, RoundWritten};
+ghost use Rattle.files.specs.Steps.{refusedOr, recordOf, recordAt, judgement, Room, over, BuffersFilled};
+use formats::Counts;
+use formats::Reading;
+use formats::Writing;
+use rounds::Box;
+use rounds::Cause;
+use rounds::Checked;
+use rounds::Refusal;
 
-// How many boxes and plugs a file holds.
-pub struct Counts {
-    pub boxes: usize,
-    pub plugs: usize,
-}
+// A box's mark.
+const BOX_MARK: u32 = 0x5B01;
 
-// What the reader answers.
-pub enum Reading {
-    Read(Counts),
-    Refused(Refusal),
-}
+// A plug's mark.
+const PLUG_MARK: u32 = 0x5B02;
 
-// What the writer answers: the byte count, or a refusal.
-pub enum Writing {
-    Written(usize),
-    Refused(Refusal),
-}
+// The end's mark.
+const END_MARK: u32 = 0x5B00;
+
+// The first mark of notes.
+const FIRST_NOTE_MARK: u32 = 0x5C00;
+
+// The last mark of notes.
+const LAST_NOTE_MARK: u32 = 0x5CFF;
+
+// The bytes of a mark, which are all that the end has.
+const MARK_LENGTH: usize = 2;
+
+// The bytes of a box: its mark and four numbers.
+const BOX_LENGTH: usize = 18;
+
+// The bytes of a plug: its mark and two numbers.
+const PLUG_LENGTH: usize = 10;
+
+// The bytes of a note's mark and length byte, before those that it counts.
+const NOTE_HEAD_LENGTH: usize = 3;
+
+// How many values a byte has.
+const BYTE: u32 = 256;
+
+// How many values two bytes have.
+const TWO_BYTES: u32 = 65536;
+
+// How many values three bytes have.
+const THREE_BYTES: u32 = 16777216;
+
+// The least bits that are those of a number below 0 in two's complement.
+const SIGN_BIT: u32 = 2147483648;
+
+// The greatest bits, those of -1.
+const ALL_BITS: u32 = 4294967295;
 
 // What stands at an offset of a file: a record, with the offset after it, or what the file is turned back by.
 enum Record {
@@ -51,14 +82,14 @@ fn mark_at(file: &[u8], at: usize) -> u32
     requires { ⌜ at + 1 < length (now file) ⌝ }
     ensures { λ r. ⌜ r ≡ markAt (now (file .entry)) at ⌝ }
 {
-    (file[at] as u32) * 256 + (file[at + 1] as u32)
+    (file[at] as u32) * BYTE + (file[at + 1] as u32)
 }
 
 // A refusal in place of a record.
-fn refused(number: u32, place: usize) -> Record
-    ensures { λ r. ⌜ r ≡ Record.Refused (record { number = number; place = place }) ⌝ }
+fn refused(cause: Cause, place: usize) -> Record
+    ensures { λ r. ⌜ r ≡ Record.Refused (record { cause = cause; place = place }) ⌝ }
 {
-    Record::Refused(Refusal { number, place })
+    Record::Refused(Refusal { cause, place })
 }
 
 // A record that ends at `end`, where the file reaches so far.
@@ -66,21 +97,21 @@ fn whole(file: &[u8], at: usize, end: usize, found: Record) -> Record
     ensures { λ r. ⌜ r ≡ refusedOr (stopsBefore end (now (file .entry)) at) found ⌝ }
 {
     if file.len() < end {
-        return refused(9, at);
+        return refused(Cause::CutShort, at);
     }
     found
 }
 
 // The note at an offset, where its mark stands.
 fn note_at(file: &[u8], at: usize) -> Record
-    requires { ⌜ at + 2 ≤ length (now file) ⌝ }
+    requires { ⌜ at + markLength ≤ length (now file) ⌝ }
     ensures { λ r. ⌜ r ≡ recordOf noteKind (now (file .entry)) at false ⌝ }
 {
-    let body = at + 3;
+    let body = at + NOTE_HEAD_LENGTH;
     if file.len() < body {
-        return refused(9, at);
+        return refused(Cause::CutShort, at);
     }
-    let end = body + (file[at + 2] as usize);
+    let end = body + (file[at + MARK_LENGTH] as usize);
     whole(file, at, end, Record::Note(end))
 }
 
@@ -89,32 +120,32 @@ fn next_record(file: &[u8], at: usize, plugged: bool) -> Record
     requires { ⌜ at ≤ length (now file) ⌝ }
     ensures { λ r. ⌜ r ≡ recordAt (now (file .entry)) at plugged ⌝ }
 {
-    if file.len() < at + 2 {
-        return refused(9, at);
+    if file.len() < at + MARK_LENGTH {
+        return refused(Cause::CutShort, at);
     }
     let mark = mark_at(file, at);
     match mark {
-        0x5B01 => {
+        BOX_MARK => {
             if plugged {
-                return refused(10, at);
+                return refused(Cause::BoxAfterPlug, at);
             }
-            whole(file, at, at + 18, Record::Box(at + 18))
+            whole(file, at, at + BOX_LENGTH, Record::Box(at + BOX_LENGTH))
         }
-        0x5B02 => whole(file, at, at + 10, Record::Plug(at + 10)),
-        0x5B00 => {
-            if at + 2 < file.len() {
-                return refused(11, at + 2);
+        PLUG_MARK => whole(file, at, at + PLUG_LENGTH, Record::Plug(at + PLUG_LENGTH)),
+        END_MARK => {
+            if at + MARK_LENGTH < file.len() {
+                return refused(Cause::ByteAfterEnd, at + MARK_LENGTH);
             }
             Record::End
         }
-        0x5C00..=0x5CFF => note_at(file, at),
-        _ => refused(8, at),
+        FIRST_NOTE_MARK..=LAST_NOTE_MARK => note_at(file, at),
+        _ => refused(Cause::UnknownMark, at),
     }
 }
 
 // Judges the form of a file and counts its boxes and plugs.
-fn judge(file: &[u8]) -> Reading
-    ensures { λ r. ⌜ readingReply r ≡ replyUnder (contentOf (now (file .entry)) .fault) (countsOf (contentOf (now (file .entry)))) ⌝ }
+fn judge_form(file: &[u8]) -> Reading
+    ensures { λ r. ⌜ r ≡ judgement (now (file .entry)) ⌝ }
 {
     let mut at: usize = 0;
     let mut boxes: usize = 0;
@@ -147,10 +178,10 @@ fn judge(file: &[u8]) -> Reading
 fn signed(bits: u32) -> i32
     ensures { λ r. ⌜ r ≡ toZ w32 bits ⌝ }
 {
-    if bits < 2147483648 {
+    if bits < SIGN_BIT {
         return bits as i32;
     }
-    -1 - ((4294967295 - bits) as i32)
+    -1 - ((ALL_BITS - bits) as i32)
 }
 
 // The number at an offset.
@@ -158,14 +189,14 @@ fn number_at(file: &[u8], at: usize) -> i32
     requires { ⌜ at + 3 < length (now file) ⌝ }
     ensures { λ r. ⌜ r ≡ numberAt (now (file .entry)) at ⌝ }
 {
-    let high = (file[at] as u32) * 16777216 + (file[at + 1] as u32) * 65536;
-    signed(high + (file[at + 2] as u32) * 256 + (file[at + 3] as u32))
+    let high = (file[at] as u32) * THREE_BYTES + (file[at + 1] as u32) * TWO_BYTES;
+    signed(high + (file[at + 2] as u32) * BYTE + (file[at + 3] as u32))
 }
 
 // Puts the box whose numbers start at an offset of a file into a buffer, from `to` on.
 fn put_box(file: &[u8], from: usize, boxes: &mut [i32], to: usize)
     requires { ⌜ (from + 15 < length (now file)) × (to + 3 < length (now boxes)) ⌝ }
-    ensures { λ _. ⌜ now (boxes .exit) ≡ over (now (boxes .entry)) to (edges (boxAt (now (file .entry)) from)) ⌝ }
+    ensures { λ _. ⌜ now (boxes .exit) ≡ over (now (boxes .entry)) to (edges (fileBoxAt (now (file .entry)) from)) ⌝ }
 {
     boxes[to] = number_at(file, from);
     boxes[to + 1] = number_at(file, from + 4);
@@ -176,7 +207,8 @@ fn put_box(file: &[u8], from: usize, boxes: &mut [i32], to: usize)
 // Puts the plug whose numbers start at an offset of a file into a buffer, from `to` on.
 fn put_plug(file: &[u8], from: usize, plugs: &mut [i32], to: usize)
     requires { ⌜ (from + 7 < length (now file)) × (to + 1 < length (now plugs)) ⌝ }
-    ensures { λ _. ⌜ now (plugs .exit) ≡ over (now (plugs .entry)) to (coordinates (plugAt (now (file .entry)) from)) ⌝ }
+    ensures { λ _. ⌜ now (plugs .exit) ≡
+        over (now (plugs .entry)) to (coordinates (filePlugAt (now (file .entry)) from)) ⌝ }
 {
     plugs[to] = number_at(file, from);
     plugs[to + 1] = number_at(file, from + 4);
@@ -185,8 +217,8 @@ fn put_plug(file: &[u8], from: usize, plugs: &mut [i32], to: usize)
 // Fills two buffers that have room for the boxes and plugs of a well-formed file.
 fn fill(file: &[u8], boxes: &mut [i32], plugs: &mut [i32])
     requires { ⌜ Room (contentOf (now file)) (length (now boxes)) (length (now plugs)) ⌝ }
-    ensures { λ _. ⌜ now (boxes .exit) ≡ over (now (boxes .entry)) 0 (flatMap edges (contentOf (now (file .entry)) .boxes)) ⌝ }
-    ensures { λ _. ⌜ now (plugs .exit) ≡ over (now (plugs .entry)) 0 (flatMap coordinates (contentOf (now (file .entry)) .plugs)) ⌝ }
+    ensures { λ _. ⌜ BuffersFilled (now (file .entry)) (now (boxes .entry)) (now (plugs .entry))
+        (now (boxes .exit)) (now (plugs .exit)) ⌝ }
 {
     let mut at: usize = 0;
     let mut edge: usize = 0;
@@ -195,12 +227,12 @@ fn fill(file: &[u8], boxes: &mut [i32], plugs: &mut [i32])
         let found = next_record(file, at, 0 < coordinate);
         match found {
             Record::Box(next) => {
-                put_box(file, at + 2, boxes, edge);
+                put_box(file, at + MARK_LENGTH, boxes, edge);
                 edge += 4;
                 at = next;
             }
             Record::Plug(next) => {
-                put_plug(file, at + 2, plugs, coordinate);
+                put_plug(file, at + MARK_LENGTH, plugs, coordinate);
                 coordinate += 2;
                 at = next;
             }
@@ -219,24 +251,18 @@ fn fill(file: &[u8], boxes: &mut [i32], plugs: &mut [i32])
 
 // Reads a round file into a buffer of boxes and one of plugs, and returns both counts. It judges form only.
 pub fn read_round(file: &[u8], boxes: &mut [i32], plugs: &mut [i32]) -> Reading
-    ensures { λ r. ⌜ RoundRead (now (file .entry)) (now (boxes .entry)) (now (plugs .entry)) r (now (boxes .exit)) (now (plugs .exit)) ⌝ }
+    ensures { λ r. ⌜ RoundRead (now (file .entry)) (now (boxes .entry)) (now (plugs .entry)) r
+        (now (boxes .exit)) (now (plugs .exit)) ⌝ }
 {
-    let judged = judge(file);
+    let judged = judge_form(file);
     match judged {
         Reading::Read(counts) => {
-            let edges = 4 * counts.boxes;
-            if boxes.len() < edges {
-                return Reading::Refused(Refusal {
-                    number: 7,
-                    place: edges,
-                });
-            }
-            let coordinates = 2 * counts.plugs;
-            if plugs.len() < coordinates {
-                return Reading::Refused(Refusal {
-                    number: 7,
-                    place: coordinates,
-                });
+            let measured = checks::first_refusal(
+                checks::check_buffer(4 * counts.boxes, boxes.len()),
+                checks::check_buffer(2 * counts.plugs, plugs.len()),
+            );
+            if let Checked::Refused(refusal) = measured {
+                return Reading::Refused(refusal);
             }
             fill(file, boxes, plugs);
             Reading::Read(counts)
@@ -252,7 +278,16 @@ fn bits_of(number: i32) -> u32
     if 0 <= number {
         return number as u32;
     }
-    4294967295 - ((-1 - number) as u32)
+    ALL_BITS - ((-1 - number) as u32)
+}
+
+// Writes a mark at an offset.
+fn write_mark(mark: u32, file: &mut [u8], at: usize)
+    requires { ⌜ (mark < 65536) × (at + 1 < length (now file)) ⌝ }
+    ensures { λ _. ⌜ now (file .exit) ≡ over (now (file .entry)) at (markBytes mark) ⌝ }
+{
+    file[at] = (mark / BYTE) as u8;
+    file[at + 1] = (mark % BYTE) as u8;
 }
 
 // Writes a number at an offset.
@@ -261,67 +296,61 @@ fn write_number(number: i32, file: &mut [u8], at: usize)
     ensures { λ _. ⌜ now (file .exit) ≡ over (now (file .entry)) at (numberBytes number) ⌝ }
 {
     let bits = bits_of(number);
-    file[at] = (bits / 16777216) as u8;
-    file[at + 1] = (bits / 65536 % 256) as u8;
-    file[at + 2] = (bits / 256 % 256) as u8;
-    file[at + 3] = (bits % 256) as u8;
+    file[at] = (bits / THREE_BYTES) as u8;
+    file[at + 1] = (bits / TWO_BYTES % BYTE) as u8;
+    file[at + 2] = (bits / BYTE % BYTE) as u8;
+    file[at + 3] = (bits % BYTE) as u8;
 }
 
 // Writes a box at an offset.
-fn write_box(west: i32, south: i32, east: i32, north: i32, file: &mut [u8], at: usize)
-    requires { ⌜ at + 17 < length (now file) ⌝ }
-    ensures { λ _. ⌜ now (file .exit) ≡ over (now (file .entry)) at (boxRecord (box west south east north)) ⌝ }
+fn write_box(b: Box, file: &mut [u8], at: usize)
+    requires { ⌜ at + boxLength ≤ length (now file) ⌝ }
+    ensures { λ _. ⌜ now (file .exit) ≡ over (now (file .entry)) at (boxRecord b) ⌝ }
 {
-    file[at] = 0x5B;
-    file[at + 1] = 0x01;
-    write_number(west, file, at + 2);
-    write_number(south, file, at + 6);
-    write_number(east, file, at + 10);
-    write_number(north, file, at + 14);
+    write_mark(BOX_MARK, file, at);
+    let from = at + MARK_LENGTH;
+    write_number(b.west, file, from);
+    write_number(b.south, file, from + 4);
+    write_number(b.east, file, from + 8);
+    write_number(b.north, file, from + 12);
 }
 
 // Writes a plug at an offset.
 fn write_plug(east: i32, north: i32, file: &mut [u8], at: usize)
-    requires { ⌜ at + 9 < length (now file) ⌝ }
+    requires { ⌜ at + plugLength ≤ length (now file) ⌝ }
     ensures { λ _. ⌜ now (file .exit) ≡ over (now (file .entry)) at (plugRecord (point east north)) ⌝ }
 {
-    file[at] = 0x5B;
-    file[at + 1] = 0x02;
-    write_number(east, file, at + 2);
-    write_number(north, file, at + 6);
+    write_mark(PLUG_MARK, file, at);
+    let from = at + MARK_LENGTH;
+    write_number(east, file, from);
+    write_number(north, file, from + 4);
 }
 
 // Writes every box, from the front on.
 fn write_boxes(boxes: &[i32], file: &mut [u8])
-    requires { ⌜ 18 * (length (now boxes) / 4) ≤ length (now file) ⌝ }
-    ensures { λ _. ⌜ now (file .exit) ≡ over (now (file .entry)) 0 (flatMap boxRecord (boxesOf (now (boxes .entry)))) ⌝ }
+    requires { ⌜ boxLength * (length (now boxes) / 4) ≤ length (now file) ⌝ }
+    ensures { λ _. ⌜ now (file .exit) ≡
+        over (now (file .entry)) 0 (flatMap boxRecord (boxesOf (now (boxes .entry)))) ⌝ }
 {
     let count = boxes.len() / 4;
     let mut k: usize = 0;
     while k < count {
-        let from = k * 4;
-        write_box(
-            boxes[from],
-            boxes[from + 1],
-            boxes[from + 2],
-            boxes[from + 3],
-            file,
-            k * 18,
-        );
+        write_box(boxes::box_at(boxes, k), file, k * BOX_LENGTH);
         k += 1;
     }
 }
 
 // Writes every plug, from an offset on.
 fn write_plugs(plugs: &[i32], file: &mut [u8], at: usize)
-    requires { ⌜ at + 10 * (length (now plugs) / 2) ≤ length (now file) ⌝ }
-    ensures { λ _. ⌜ now (file .exit) ≡ over (now (file .entry)) at (flatMap plugRecord (plugsOf (now (plugs .entry)))) ⌝ }
+    requires { ⌜ at + plugLength * (length (now plugs) / 2) ≤ length (now file) ⌝ }
+    ensures { λ _. ⌜ now (file .exit) ≡
+        over (now (file .entry)) at (flatMap plugRecord (plugsOf (now (plugs .entry)))) ⌝ }
 {
     let count = plugs.len() / 2;
     let mut k: usize = 0;
     while k < count {
         let from = k * 2;
-        write_plug(plugs[from], plugs[from + 1], file, at + k * 10);
+        write_plug(plugs[from], plugs[from + 1], file, at + k * PLUG_LENGTH);
         k += 1;
     }
 }
@@ -330,26 +359,19 @@ fn write_plugs(plugs: &[i32], file: &mut [u8], at: usize)
 pub fn write_round(boxes: &[i32], plugs: &[i32], file: &mut [u8]) -> Writing
     ensures { λ r. ⌜ RoundWritten (now (boxes .entry)) (now (plugs .entry)) (now (file .entry)) r (now (file .exit)) ⌝ }
 {
-    let checked = rounds::check_boxes(boxes);
-    if let Checked::Refused(refusal) = checked {
-        return Writing::Refused(refusal);
-    }
-    let listed = rounds::check_plugs(plugs);
+    let listed = checks::first_refusal(checks::check_boxes(boxes), checks::check_plugs(plugs));
     if let Checked::Refused(refusal) = listed {
         return Writing::Refused(refusal);
     }
-    let after_boxes = 18 * (boxes.len() / 4);
-    let after_plugs = after_boxes + 10 * (plugs.len() / 2);
-    let needed = after_plugs + 2;
-    if file.len() < needed {
-        return Writing::Refused(Refusal {
-            number: 7,
-            place: needed,
-        });
+    let after_boxes = BOX_LENGTH * (boxes.len() / 4);
+    let after_plugs = after_boxes + PLUG_LENGTH * (plugs.len() / 2);
+    let needed = after_plugs + MARK_LENGTH;
+    let measured = checks::check_buffer(needed, file.len());
+    if let Checked::Refused(refusal) = measured {
+        return Writing::Refused(refusal);
     }
     write_boxes(boxes, file);
     write_plugs(plugs, file, after_boxes);
-    file[after_plugs] = 0x5B;
-    file[after_plugs + 1] = 0x00;
+    write_mark(END_MARK, file, after_plugs);
     Writing::Written(needed)
 }

@@ -11,17 +11,17 @@ use lib.IntN.{pos}
 use lib.Signed.{_≤ℤ_, _<ℤ_}
 use Rattle.integers.proofs.Order.{<→≤}
 use Rattle.integers.proofs.Rules.{zrules}
-use Rattle.sorting.specs.Order.{get, Sorted, Within}
-use Rattle.turns.specs.Keys.{Key}
-use Rattle.hulls.specs.Chains.{Keys, turn, Chain, Popped}
+use Rattle.sorting.specs.Order.{get, Sorted, EachAmong}
+use Rattle.turns.specs.Keys.{Key, AllKeys}
+use Rattle.hulls.specs.Chains.{turn, Chain, Popped}
 use Rattle.hulls.proofs.Turning.{turn-same, turn-end, not-right-end, down, beyond, behind}
 
 -- numbers that are among keys are keys
-pub among : {q s : ℕ → ℕ} {m k : ℕ} → Keys q m → Within s k q m → Keys s k
+pub among : {q s : ℕ → ℕ} {m k : ℕ} → AllKeys q m → EachAmong s k q m → AllKeys s k
 among ks w = record { key = λ i h. let r = w .find i h in subst Key (sym (r .2)) (ks .key (r .0) (r .1)) }
 
 -- so the vertices of a chain are
-pub chain-keys : {q s : ℕ → ℕ} {m n k : ℕ} → Keys q n → m ≤ n → Chain q m s k → Keys s k
+pub chain-keys : {q s : ℕ → ℕ} {m n k : ℕ} → AllKeys q n → m ≤ n → Chain q m s k → AllKeys s k
 chain-keys ks h ch = among ks (record { find = λ j l. let r = ch .from j l in (r .0, omega (arith, r .1), r .2) })
 
 -- one key is a chain

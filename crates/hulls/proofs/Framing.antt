@@ -7,8 +7,7 @@ use native.Mathlib.Omega.{arith}
 use lib.ListN.{length, List·getD-append}
 use lib.Seq.{getD-append-seam}
 use Rattle.sorting.specs.Order.{get, Sorted}
-use Rattle.turns.specs.Keys.{Key}
-use Rattle.hulls.specs.Chains.{Keys}
+use Rattle.turns.specs.Keys.{Key, AllKeys}
 use Rattle.hulls.specs.Halves.{Amid, framed}
 
 -- where the i-th of m framed numbers stands
@@ -32,7 +31,7 @@ module _ (first : ℕ) (l : List ℕ) (last : ℕ) where
   pub framed-last : framed first l last (suc (length l)) ≡ last
   framed-last = getD-append-seam l last [] 0
 
-  pub framed-keys : Key first → Keys (get l) (length l) → Key last → Keys (framed first l last) (length l + 2)
+  pub framed-keys : Key first → AllKeys (get l) (length l) → Key last → AllKeys (framed first l last) (length l + 2)
   framed-keys f ks g = record { key = λ i h. go i (place-of (length l) i h) }
     where
       go : (i : ℕ) → Place (length l) i → Key (framed first l last i)

@@ -13,12 +13,12 @@ use lib.ListN.{length, set, length-set}
 use lib.Seq.{getD-set-same, getD-set-other}
 use Rattle.integers.proofs.Rules.{zrules}
 use Rattle.plane.specs.Points.{signedArea}
-use Rattle.sorting.specs.Order.{get, Sorted, Within}
+use Rattle.sorting.specs.Order.{get, Sorted, EachAmong}
 use Rattle.turns.specs.Keys.{pointOf}
+use Rattle.turns.specs.Reflection.{reflected}
 use Rattle.hulls.specs.Chains.{turn, Chain}
-use Rattle.hulls.specs.Mirrors.{flip}
-use Rattle.hulls.specs.Inner.{Among}
-use Rattle.hulls.specs.Halves.{EndsOf, Part, Halves}
+use Rattle.extremes.specs.Inner.{Among, EndsOf}
+use Rattle.hulls.specs.Halves.{Part, Halves}
 use Rattle.hulls.proofs.Turning.{right-if, not-right-if, left-if, not-left-if, turn-first, turn-last, cover}
 
 -- ---- one more key of a part
@@ -108,7 +108,7 @@ pub record Splitting (old : List ℕ) (first last : ℕ) (keys mirror : List ℕ
   pub unread : (j : ℕ) → i ≤ j → get keys j ≡ get old j
   spare : Spare (get old) first last i (u + v)
   up : Part (get old) i (λ k. k) (get keys) u (Left first last) (NotLeft first last)
-  down : Part (get old) i flip (get mirror) v (Right first last) (NotRight first last)
+  down : Part (get old) i reflected (get mirror) v (Right first last) (NotRight first last)
 
 pub splitting : (old mirror : List ℕ) (first last : ℕ) → length old ≤ length mirror → Splitting old first last old mirror 0 0 0
 splitting old mirror first last h =
@@ -146,7 +146,7 @@ module _ (old : List ℕ) (first last : ℕ) (keys mirror : List ℕ) (i u v : �
   key-is = p .unread i (omega arith)
 
   -- a turn, with what the code counts
-  module _ (key : ℕ) (left right : Bool) (d e : ℕ) (h : first < last) (o : i < length old) (ke : key ≡ get old i)
+  module _ (key key′ : ℕ) (left right : Bool) (d e : ℕ) (h : first < last) (o : i < length old) (ke : key ≡ get old i) (ke′ : key′ ≡ reflected key)
       (le : left ≡ ltZ (pos 0) (signedArea (pointOf first) (pointOf last) (pointOf key)))
       (re : right ≡ ltZ (signedArea (pointOf first) (pointOf last) (pointOf key)) (pos 0))
       (de : d ≡ cond left 1 0) (ee : e ≡ cond right 1 0) where
@@ -178,7 +178,7 @@ module _ (old : List ℕ) (first last : ℕ) (keys mirror : List ℕ) (i u v : �
             let w : u + v ≡ (u + d) + (v + e) = omega (arith, a .0, b .0) in
             subst (λ n. Spare (get old) first last (i + 1) n) w (spare-drop (get old) first last i (u + v) (p .spare) h)
 
-    pub split-more : Splitting old first last (set keys u key) (set mirror v (flip key)) (i + 1) (u + d) (v + e)
+    pub split-more : Splitting old first last (set keys u key) (set mirror v key′) (i + 1) (u + d) (v + e)
     split-more =
         record {
           i-in = omega arith;
@@ -190,8 +190,8 @@ module _ (old : List ℕ) (first last : ℕ) (keys mirror : List ℕ) (i u v : �
               part-more (get old) i (λ k. k) (get keys) (get (set keys u key)) u _ _ (p .up) (λ j l. getD-set-other keys u j key 0 (λ z. omega arith))
               (getD-set-same keys u key 0 (omega (arith, taken-few, p .long)) ∙ ke) d lefts;
           down =
-              part-more (get old) i flip (get mirror) (get (set mirror v (flip key))) v _ _ (p .down) (λ j l. getD-set-other mirror v j (flip key) 0 (λ z. omega arith))
-              (getD-set-same mirror v (flip key) 0 (omega (arith, taken-few, p .room)) ∙ ap flip ke) e rights;
+              part-more (get old) i reflected (get mirror) (get (set mirror v key′)) v _ _ (p .down) (λ j l. getD-set-other mirror v j key′ 0 (λ z. omega arith))
+              (getD-set-same mirror v key′ 0 (omega (arith, taken-few, p .room)) ∙ ke′ ∙ ap reflected ke) e rights;
         }
 
   pub split-end : length old ≤ i → EndsOf old first last → Halves old first last keys mirror u v
@@ -201,7 +201,7 @@ module _ (old : List ℕ) (first last : ℕ) (keys mirror : List ℕ) (i u v : �
       record {
         few = s .but-both (n .first-in) (n .last-in);
         above = subst (λ j. Part (get old) j (λ k. k) (get keys) u (Left first last) (NotLeft first last)) e (p .up);
-        below = subst (λ j. Part (get old) j flip (get mirror) v (Right first last) (NotRight first last)) e (p .down);
+        below = subst (λ j. Part (get old) j reflected (get mirror) v (Right first last) (NotRight first last)) e (p .down);
       }
 
 -- ---- the upper chain of a half is that of all keys
@@ -211,7 +211,7 @@ pub record Half (q : ℕ → ℕ) (m : ℕ) (out : ℕ → ℕ) (u : ℕ) : Type
   pub some : 1 ≤ u
   pub few : u ≤ m
   pub sorted : Sorted out 0 u
-  pub from : Within out u q m
+  pub from : EachAmong out u q m
   pub first : out 0 ≡ q 0
   pub last : Among out u (q (m - 1))
   pub rest : (i : ℕ) → i < m → Among out u (q i) ⊎ (turn (q 0) (q (m - 1)) (q i) ≤ℤ pos 0)

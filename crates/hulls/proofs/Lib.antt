@@ -3,14 +3,13 @@
 --     Turning    turns at keys in order; a key in line with two others, and between them in order, lies between them
 --     Chaining   how one more key changes an upper chain
 --     Fan        the vertices of a chain, seen from its first
---     Mirroring  keys reflected through the middle of the plane
+--     Mirroring  keys reflected through the datum
 --     Framing    keys after a first and before a last
 --     Halving    keys split by a line: the upper chain of a half is that of all
 --     Joining    two parts of keys sorted at once
 --     Parting    the two parts of keys, in order, as the chains take them
 --     Listing    the two chains make a closed listing, by index
 --     Outlines   a closed listing is an outline of the keys' points
---     Dropping   keys that are dropped before sorting
 --     Made       the polygon of a list of keys, from what the calls promise
 pub mod Turning
 pub mod Chaining
@@ -22,5 +21,4 @@ pub mod Joining
 pub mod Parting
 pub mod Listing
 pub mod Outlines
-pub mod Dropping
 pub mod Made

@@ -9,14 +9,15 @@ use lib.Dec.{ltb}
 use borrow.Author.Tests.{lt-ltb, le-ltb}
 use lib.IntN.{pos}
 use lib.Signed.{_≤ℤ_, _<ℤ_}
-use Rattle.sorting.specs.Order.{Sorted, Within}
+use Rattle.sorting.specs.Order.{Sorted, EachAmong}
 use Rattle.sorting.proofs.Pigeons.{within-few}
-use Rattle.turns.specs.Keys.{Key}
-use Rattle.hulls.specs.Chains.{Keys, turn, Chain}
-use Rattle.hulls.specs.Mirrors.{flip}
+use Rattle.turns.specs.Keys.{Key, AllKeys}
+use Rattle.turns.specs.Reflection.{reflected}
+use Rattle.turns.proofs.Reflection.{reflected-less}
+use Rattle.hulls.specs.Chains.{turn, Chain}
 use Rattle.hulls.proofs.Turning.{cyclic-<, turn-end, not-both, around, around-last}
 use Rattle.hulls.proofs.Fan.{rises, fan}
-use Rattle.hulls.proofs.Mirroring.{Mirrors, flip-less, flip-turn, mirror-keys, mirror-back}
+use Rattle.hulls.proofs.Mirroring.{Mirrors, reflected-turn, mirror-keys, mirror-back}
 
 -- j′ is the vertex after j, of h: after the last comes the first
 pub data Next (h j j′ : ℕ) : Type 0 where
@@ -27,7 +28,7 @@ pub data Next (h j j′ : ℕ) : Type 0 where
 pub record Closed (q : ℕ → ℕ) (m : ℕ) (p : ℕ → ℕ) (h : ℕ) : Type 0 where
   pub some : 1 ≤ h
   -- each vertex is a key, and no two are the same
-  pub from : Within p h q m
+  pub from : EachAmong p h q m
   pub apart : (i j : ℕ) → i < j → j < h → p i ≡ p j → ⊥
   -- each key is right of each side, or on it
   pub right : (i j j′ : ℕ) → i < m → Next h j j′ → turn (p j) (p j′) (q i) ≤ℤ pos 0
@@ -65,7 +66,7 @@ single-key q m p some same e =
 
 -- ---- two different keys or more: u is the upper chain, with a sides, and l the upper chain of the reflected keys f, with b sides
 
-module _ (q : ℕ → ℕ) (m : ℕ) (ups : Sorted q 0 m) (ks : Keys q m) (ends : q 0 < q (m - 1))
+module _ (q : ℕ → ℕ) (m : ℕ) (ups : Sorted q 0 m) (ks : AllKeys q m) (ends : q 0 < q (m - 1))
     (u : ℕ → ℕ) (a : ℕ) (cu : Chain q m u (suc a)) (f : ℕ → ℕ) (mi : Mirrors q m f) (l : ℕ → ℕ) (b : ℕ) (cl : Chain f m l (suc b)) where
   more : 2 ≤ m
   more = go (decLt 1 m)
@@ -88,12 +89,12 @@ module _ (q : ℕ → ℕ) (m : ℕ) (ups : Sorted q 0 m) (ks : Keys q m) (ends 
           let d = ends in
           absurd (omega (arith, cu .first))
 
-  -- the lower chain: l, flipped back
-  d-first : flip (l 0) ≡ q (m - 1)
-  d-first = ap flip (cl .first) ∙ mirror-back q m f ks mi 0 (m - 1) (omega arith)
+  -- the lower chain: l, reflected back
+  d-first : reflected (l 0) ≡ q (m - 1)
+  d-first = ap reflected (cl .first) ∙ mirror-back q m f ks mi 0 (m - 1) (omega arith)
 
-  d-last : flip (l b) ≡ q 0
-  d-last = ap flip (cl .last (m - 1) b (omega arith) refl) ∙ mirror-back q m f ks mi (m - 1) 0 (omega arith)
+  d-last : reflected (l b) ≡ q 0
+  d-last = ap reflected (cl .last (m - 1) b (omega arith) refl) ∙ mirror-back q m f ks mi (m - 1) 0 (omega arith)
 
   b-some : 1 ≤ b
   b-some = go (decLt 0 b)
@@ -102,41 +103,41 @@ module _ (q : ℕ → ℕ) (m : ℕ) (ups : Sorted q 0 m) (ks : Keys q m) (ends 
       go (yes h) = omega arith
       go (no h) =
           let z : b ≡ 0 = omega arith in
-          let e : flip (l 0) ≡ q 0 = rw z at d-last in
+          let e : reflected (l 0) ≡ q 0 = rw z at d-last in
           let d = ends in
           absurd (omega (arith, d-first))
 
-  d-from : (i : ℕ) → i ≤ b → (j : ℕ) × (j < m) × (flip (l i) ≡ q j)
+  d-from : (i : ℕ) → i ≤ b → (j : ℕ) × (j < m) × (reflected (l i) ≡ q j)
   d-from i h =
       let r = cl .from i (omega arith) in
       let o : r .0 < m = r .1 in
-      (m - suc (r .0), omega arith, ap flip (r .2) ∙ mirror-back q m f ks mi (r .0) (m - suc (r .0)) (omega arith))
+      (m - suc (r .0), omega arith, ap reflected (r .2) ∙ mirror-back q m f ks mi (r .0) (m - suc (r .0)) (omega arith))
 
   l-key : (i : ℕ) → i ≤ b → Key (l i)
   l-key i h = let r = cl .from i (omega arith) in subst Key (sym (r .2)) (mirror-keys q m f ks mi .key (r .0) (r .1))
 
-  d-falls : (i j : ℕ) → i < j → j ≤ b → flip (l j) < flip (l i)
-  d-falls i j h k = flip-less (l-key j k) (rises f m l (suc b) cl i j h (omega arith))
+  d-falls : (i j : ℕ) → i < j → j ≤ b → reflected (l j) < reflected (l i)
+  d-falls i j h k = reflected-less (l-key j k) (rises f m l (suc b) cl i j h (omega arith))
 
-  d-bends : (i : ℕ) → suc (suc i) ≤ b → turn (flip (l i)) (flip (l (suc i))) (flip (l (suc (suc i)))) <ℤ pos 0
-  d-bends i h = rw (flip-turn (l-key i (omega arith)) (l-key (suc i) (omega arith)) (l-key (suc (suc i)) h)) (cl .bends i (omega arith))
+  d-bends : (i : ℕ) → suc (suc i) ≤ b → turn (reflected (l i)) (reflected (l (suc i))) (reflected (l (suc (suc i)))) <ℤ pos 0
+  d-bends i h = rw (reflected-turn (l-key i (omega arith)) (l-key (suc i) (omega arith)) (l-key (suc (suc i)) h)) (cl .bends i (omega arith))
 
-  d-right : (i j : ℕ) → i < m → j < b → turn (flip (l j)) (flip (l (suc j))) (q i) ≤ℤ pos 0
+  d-right : (i j : ℕ) → i < m → j < b → turn (reflected (l j)) (reflected (l (suc j))) (q i) ≤ℤ pos 0
   d-right i j h k =
       let o : m - suc i < m = omega arith in
-      rw (← mirror-back q m f ks mi (m - suc i) i (omega arith), flip-turn (l-key j (omega arith)) (l-key (suc j) k) (mirror-keys q m f ks mi .key (m - suc i) o))
+      rw (← mirror-back q m f ks mi (m - suc i) i (omega arith), reflected-turn (l-key j (omega arith)) (l-key (suc j) k) (mirror-keys q m f ks mi .key (m - suc i) o))
       (cl .right (m - suc i) j o (omega arith))
 
   -- a vertex of the upper chain that is no end is left of the line from the first key to the last, and one of the lower chain right of it
   up-left : (j : ℕ) → 0 < j → j < a → turn (q 0) (u j) (q (m - 1)) <ℤ pos 0
   up-left j h k = rw (cu .first, u-last) at (fan q m u (suc a) cu j a h k (omega arith))
 
-  down-right : (i : ℕ) → 0 < i → i < b → turn (q 0) (q (m - 1)) (flip (l i)) <ℤ pos 0
+  down-right : (i : ℕ) → 0 < i → i < b → turn (q 0) (q (m - 1)) (reflected (l i)) <ℤ pos 0
   down-right i h k = cyclic-< _ _ _ (cyclic-< _ _ _ turned)
     where
-      turned : turn (q (m - 1)) (flip (l i)) (q 0) <ℤ pos 0
+      turned : turn (q (m - 1)) (reflected (l i)) (q 0) <ℤ pos 0
       turned =
-          rw (← d-first, ← d-last, flip-turn (l-key 0 (omega arith)) (l-key i (omega arith)) (l-key b (omega arith)))
+          rw (← d-first, ← d-last, reflected-turn (l-key 0 (omega arith)) (l-key i (omega arith)) (l-key b (omega arith)))
           (fan f m l (suc b) cl i b h k (omega arith))
 
   u-before : (j : ℕ) → j < a → u j < q (m - 1)
@@ -145,32 +146,32 @@ module _ (q : ℕ → ℕ) (m : ℕ) (ups : Sorted q 0 m) (ks : Keys q m) (ends 
   u-after : (j : ℕ) → 0 < j → j ≤ a → q 0 < u j
   u-after j h k = let r = rises q m u (suc a) cu 0 j h (omega arith) in omega (arith, cu .first)
 
-  d-before : (i : ℕ) → 0 < i → i ≤ b → flip (l i) < q (m - 1)
+  d-before : (i : ℕ) → 0 < i → i ≤ b → reflected (l i) < q (m - 1)
   d-before i h k = let r = d-falls 0 i h k in omega (arith, d-first)
 
-  d-after : (i : ℕ) → i < b → q 0 < flip (l i)
+  d-after : (i : ℕ) → i < b → q 0 < reflected (l i)
   d-after i h = let r = d-falls i b h (omega arith) in omega (arith, d-last)
 
   -- where the chains meet
-  meet-last : (x : ℕ) → suc x ≡ a → 3 ≤ a + b → turn (u x) (q (m - 1)) (flip (l 1)) <ℤ pos 0
+  meet-last : (x : ℕ) → suc x ≡ a → 3 ≤ a + b → turn (u x) (q (m - 1)) (reflected (l 1)) <ℤ pos 0
   meet-last x e h = go (decLt 1 a) (decLt 1 b)
     where
-      go : Dec (1 < a) → Dec (1 < b) → turn (u x) (q (m - 1)) (flip (l 1)) <ℤ pos 0
+      go : Dec (1 < a) → Dec (1 < b) → turn (u x) (q (m - 1)) (reflected (l 1)) <ℤ pos 0
       go (yes i) (yes j) =
           around-last (u-before x (omega arith)) ends (d-before 1 (omega arith) (omega arith)) (up-left x (omega arith) (omega arith)) (down-right 1 (omega arith) j)
       go (yes i) (no j) =
           let o : 1 ≡ b = omega (arith, b-some) in
-          let r : flip (l 1) ≡ q 0 = rw (← o) at d-last in
+          let r : reflected (l 1) ≡ q 0 = rw (← o) at d-last in
           rw r (cyclic-< _ _ _ (up-left x (omega arith) (omega arith)))
       go (no i) (yes j) =
           let o : x ≡ 0 = omega arith in
           rw (o, cu .first) (down-right 1 (omega arith) j)
       go (no i) (no j) = absurd (omega arith)
 
-  meet-first : (y : ℕ) → suc y ≡ b → 3 ≤ a + b → turn (flip (l y)) (q 0) (u 1) <ℤ pos 0
+  meet-first : (y : ℕ) → suc y ≡ b → 3 ≤ a + b → turn (reflected (l y)) (q 0) (u 1) <ℤ pos 0
   meet-first y e h = go (decLt 1 a) (decLt 1 b)
     where
-      go : Dec (1 < a) → Dec (1 < b) → turn (flip (l y)) (q 0) (u 1) <ℤ pos 0
+      go : Dec (1 < a) → Dec (1 < b) → turn (reflected (l y)) (q 0) (u 1) <ℤ pos 0
       go (yes i) (yes j) =
           cyclic-< _ _ _ (cyclic-< _ _ _
           (around (u-after 1 (omega arith) (omega arith)) ends (d-after y (omega arith)) (up-left 1 (omega arith) i) (down-right y (omega arith) (omega arith))))
@@ -184,7 +185,7 @@ module _ (q : ℕ → ℕ) (m : ℕ) (ups : Sorted q 0 m) (ks : Keys q m) (ends 
       go (no i) (no j) = absurd (omega arith)
 
   -- p holds the upper chain without its last vertex, and then the lower one without its last
-  module _ (p : ℕ → ℕ) (at-up : (j : ℕ) → j < a → p j ≡ u j) (at-down : (i : ℕ) → i < b → p (a + i) ≡ flip (l i)) where
+  module _ (p : ℕ → ℕ) (at-up : (j : ℕ) → j < a → p j ≡ u j) (at-down : (i : ℕ) → i < b → p (a + i) ≡ reflected (l i)) where
     p-up : (j : ℕ) → j ≤ a → p j ≡ u j
     p-up j h = go (decLt j a)
       where
@@ -205,11 +206,11 @@ module _ (q : ℕ → ℕ) (m : ℕ) (ups : Sorted q 0 m) (ks : Keys q m) (ends 
     next-up j j′ h (on k e) = ap p e ∙ p-up (suc j) (omega arith)
     next-up j j′ h (round k e) = absurd (omega (arith, b-some))
 
-    next-down : (i j j′ : ℕ) → i < b → j ≡ a + i → Next (a + b) j j′ → p j′ ≡ flip (l (suc i))
+    next-down : (i j j′ : ℕ) → i < b → j ≡ a + i → Next (a + b) j j′ → p j′ ≡ reflected (l (suc i))
     next-down i j j′ h z (on k e) = let o : j′ ≡ a + suc i = omega arith in ap p o ∙ at-down (suc i) (omega arith)
-    next-down i j j′ h z (round k e) = let o : b ≡ suc i = omega arith in ap p e ∙ p-zero ∙ sym d-last ∙ ap (λ i. flip (l i)) o
+    next-down i j j′ h z (round k e) = let o : b ≡ suc i = omega arith in ap p e ∙ p-zero ∙ sym d-last ∙ ap (λ i. reflected (l i)) o
 
-    p-down : (i j : ℕ) → i < b → j ≡ a + i → p j ≡ flip (l i)
+    p-down : (i j : ℕ) → i < b → j ≡ a + i → p j ≡ reflected (l i)
     p-down i j h e = ap p e ∙ at-down i h
 
     in-range : {j j′ : ℕ} → Next (a + b) j j′ → j < a + b
@@ -307,7 +308,7 @@ module _ (q : ℕ → ℕ) (m : ℕ) (ups : Sorted q 0 m) (ks : Keys q m) (ends 
 
   -- so there are no more sides than keys
   joined : ℕ → ℕ
-  joined j = cond (ltb j a) (u j) (flip (l (j - a)))
+  joined j = cond (ltb j a) (u j) (reflected (l (j - a)))
 
   pub sides-few : a + b ≤ m
   unfolding joined

@@ -1,44 +1,43 @@
 -- The polygon of a list of keys, from what the calls of the code promise of lists. Assumes nothing.
 use mathlib.Core.Path.{_≡_, refl, sym, ap, _∙_, subst}
 use mathlib.Core.Logic.{_⊎_, inl, inr, ⊎-elim}
-use Prim.Native.Nat.{ℕ, suc, _+_, _-_, _/_, _%_, _≤_, _<_}
+use Prim.Native.Nat.{ℕ, suc, _+_, _-_, _≤_, _<_}
 use native.Mathlib.Omega.{arith}
 use mathlib.Core.List.{List, map}
-use lib.Dec.{lt→ltb}
 use lib.IntN.{pos}
-use lib.Signed.{_≤ℤ_, _<ℤ_}
+use lib.Signed.{_≤ℤ_}
 use lib.ListN.{length, take}
 use lib.Seq.{length-take-le, getD-take}
-use Rattle.integers.proofs.Expr.{_⊖_, #_, _≺_, _⟹_}
-use Rattle.integers.proofs.Lin.{lin}
 use Rattle.plane.specs.Points.{Point}
 use Rattle.plane.specs.Members.{_∈_}
 use Rattle.plane.proofs.Outline.{outline-polygon}
 use Rattle.plane.proofs.Dropping.{Inner as InnerPoint, same-polygon}
-use Rattle.turns.specs.Keys.{pointOf}
-use Rattle.sorting.specs.Order.{get, Sorted, Within}
+use Rattle.turns.specs.Keys.{pointOf, AllKeys}
+use Rattle.turns.specs.Reflection.{reflected}
+use Rattle.turns.proofs.Parts.{east-first, east-less, north-less, key-below, bound-twice}
+use Rattle.turns.proofs.Reflection.{reflected-less}
+use Rattle.sorting.specs.Order.{get, Sorted, EachAmong}
 use Rattle.sorting.specs.Count.{SortedOf}
 use Rattle.sorting.proofs.Counting.{within, same-sym}
 use Rattle.sorting.proofs.Passes.{rearranged-length}
 use Rattle.sorting.proofs.Digits.{passes, rearranged-passes, sorted-passes}
 use Rattle.sorting.proofs.Front.{front-within}
-use Rattle.hulls.specs.Chains.{Keys, turn, Chain}
-use Rattle.hulls.specs.Mirrors.{flip, Appended}
-use Rattle.hulls.specs.Halves.{EndsOf, Part, Halves, Reordered, framed}
-use Rattle.hulls.specs.Inner.{Among, Inner, Outer}
+use Rattle.hulls.specs.Chains.{turn, Chain}
+use Rattle.extremes.specs.Inner.{EndsOf, Among, Inner, Outer}
+use Rattle.hulls.specs.Halves.{Part, Halves, PartsReordered, Appended, framed}
 use Rattle.hulls.specs.Hulls.{Least, Hull}
 use Rattle.hulls.proofs.Chaining.{among, chain-keys}
 use Rattle.hulls.proofs.Turning.{turn-over}
-use Rattle.hulls.proofs.Mirroring.{Mirrors, key-most, flip-less, flip-turn, mirror-keys, mirror-sorted}
+use Rattle.hulls.proofs.Mirroring.{Mirrors, reflected-turn, mirror-keys, mirror-sorted}
 use Rattle.hulls.proofs.Halving.{Half, Left, Right, NotLeft, NotRight, widen}
 use Rattle.hulls.proofs.Parting.{sorted-front, part-front, first-key, last-key, upper-amid, lower-amid, half-of}
 use Rattle.hulls.proofs.Listing.{Closed, closed-few, single-key, closed-is, sides-few}
 use Rattle.hulls.proofs.Outlines.{closed-outline, point-in, from-point, within-points}
-use Rattle.hulls.proofs.Dropping.{front-rest}
+use Rattle.extremes.proofs.Dropping.{front-rest}
 
 -- ---- a closed listing is the polygon
 
-pub closed-hull : (keys vertices : List ℕ) (h : ℕ) → h ≤ length vertices → Keys (get keys) (length keys)
+pub closed-hull : (keys vertices : List ℕ) (h : ℕ) → h ≤ length vertices → AllKeys (get keys) (length keys)
     → Closed (get keys) (length keys) (get (take h vertices)) h → Hull keys vertices h
 closed-hull keys vertices h room ks c =
     record {
@@ -53,16 +52,6 @@ closed-hull keys vertices h room ks c =
 
 -- ---- the same for other keys, each of which is one of the keys or has some of them in all four quadrants round it
 
--- the order of the parts of keys is that of their points' coordinates
-module _ (a b : ℕ) where
-  east-less : a / 32768 < b / 32768 → pointOf a .east <ℤ pointOf b .east
-  unfolding pointOf
-  east-less h = lin 0 2 (λ x y. x ≺ y ⟹ x ⊖ # 16000 ≺ y ⊖ # 16000) (omega arith) (pos (a / 32768)) (pos (b / 32768)) (record { lt = lt→ltb _ _ h })
-
-  north-less : a % 32768 < b % 32768 → pointOf a .north <ℤ pointOf b .north
-  unfolding pointOf
-  north-less h = lin 0 2 (λ x y. x ≺ y ⟹ x ⊖ # 16000 ≺ y ⊖ # 16000) (omega arith) (pos (a % 32768)) (pos (b % 32768)) (record { lt = lt→ltb _ _ h })
-
 inner-point : (l : List ℕ) (k : ℕ) → Inner (get l) (length l) k → InnerPoint (map pointOf l) (pointOf k)
 inner-point l k i =
     let p = i .north-east in
@@ -76,7 +65,7 @@ inner-point l k i =
       south-east = (pointOf (get l (s .0)), point-in l (s .0) (s .1), east-less k (get l (s .0)) (s .2), north-less (get l (s .0)) k (s .3));
     }
 
-pub outer-hull : {keys others vertices : List ℕ} {h : ℕ} → length keys ≤ length others → Within (get keys) (length keys) (get others) (length others)
+pub outer-hull : {keys others vertices : List ℕ} {h : ℕ} → length keys ≤ length others → EachAmong (get keys) (length keys) (get others) (length others)
     → ((i : ℕ) → i < length others → Among (get keys) (length keys) (get others i) ⊎ Inner (get keys) (length keys) (get others i))
     → Hull keys vertices h → Hull others vertices h
 outer-hull {keys} {others} {vertices} l w v g =
@@ -88,7 +77,7 @@ outer-hull {keys} {others} {vertices} l w v g =
       first = record {
         listed = let r = g .first .listed in let s = w .find (r .0) (r .1) in (s .0, s .1, r .2 ∙ s .2);
         least = λ i k. ⊎-elim (λ r. rw (r .2) (g .first .least (r .0) (r .1)))
-            (λ r. let s = r .south-west in omega (arith, g .first .least (s .0) (s .1), s .2)) (v i k);
+            (λ r. let s = r .south-west in omega (arith, g .first .least (s .0) (s .1), east-first (get keys (s .0)) (get others i) (s .2))) (v i k);
       };
     }
   where
@@ -98,8 +87,8 @@ outer-hull {keys} {others} {vertices} l w v g =
         rw (r .2) (⊎-elim (λ s. inl (rw (s .2) (point-in keys (s .0) (s .1)))) (λ s. inr (inner-point keys (get others (r .0)) s)) (v (r .0) (r .1)))
 
 -- so for keys with the same members
-pub same-hull : {keys others vertices : List ℕ} {h : ℕ} → length keys ≤ length others → Within (get keys) (length keys) (get others) (length others)
-    → Within (get others) (length others) (get keys) (length keys) → Hull keys vertices h → Hull others vertices h
+pub same-hull : {keys others vertices : List ℕ} {h : ℕ} → length keys ≤ length others → EachAmong (get keys) (length keys) (get others) (length others)
+    → EachAmong (get others) (length others) (get keys) (length keys) → Hull keys vertices h → Hull others vertices h
 same-hull l w v = outer-hull l w (λ i k. inl (v .find i k))
 
 -- and for keys of which the first n are left
@@ -110,27 +99,34 @@ left-hull old new n l o =
 
 -- ---- the whole: the two parts of the keys, u of them in up and v in down; both in order, in up′ and down′; the two chains, of ku vertices in old and kl in l
 
-module _ (keys up down up′ down′ old l : List ℕ) (first last u v ku kl : ℕ) (ks : Keys (get keys) (length keys)) (h : first < last) (ends : EndsOf keys first last)
-    (hs : Halves keys first last up down u v) (ru : Reordered up up′ u) (rv : Reordered down down′ v) (room : u ≤ length up′) (room′ : v ≤ length down′)
+-- what the two chains make: not too many vertices; the lower chain's are keys; and the first ones without their last, then the others without theirs, are the polygon
+pub record TwoChains (keys old l : List ℕ) (ku kl : ℕ) : Type 0 where
+  pub few : ku - 1 + (kl - 1) ≤ length keys
+  pub lower : AllKeys (get l) (kl - 1)
+  pub hull : (new : List ℕ) → length keys ≤ length new → Appended reflected (get old) (get new) (get l) (ku - 1) (kl - 1) → Hull keys new (ku - 1 + (kl - 1))
+
+module _ (keys up down up′ down′ old l : List ℕ) (first last u v ku kl : ℕ) (ks : AllKeys (get keys) (length keys)) (h : first < last) (ends : EndsOf keys first last)
+    (hs : Halves keys first last up down u v) (ro : PartsReordered up up′ down down′ u v) (room : u ≤ length up′) (room′ : v ≤ length down′)
     (cu : Chain (framed first (take u up′) last) (length (take u up′) + 2) (get old) ku)
-    (cl : Chain (framed (flip last) (take v down′) (flip first)) (length (take v down′) + 2) (get l) kl) where
+    (first′ last′ : ℕ) (f-is : first′ ≡ reflected first) (l-is : last′ ≡ reflected last)
+    (cl : Chain (framed last′ (take v down′) first′) (length (take v down′) + 2) (get l) kl) where
   -- all keys in order
   abbrev all : List ℕ
   all = passes keys
 
   sorted-all : SortedOf keys all
-  sorted-all = sorted-passes keys (λ i o. let k = key-most (ks .key i o) in omega arith)
+  sorted-all = sorted-passes keys (λ i o. omega (arith, key-below (ks .key i o), bound-twice))
 
   many : length all ≡ length keys
   many = rearranged-length (rearranged-passes keys)
 
-  inward : Within (get all) (length all) (get keys) (length keys)
+  inward : EachAmong (get all) (length all) (get keys) (length keys)
   inward = within (sorted-all .same)
 
-  outward : Within (get keys) (length keys) (get all) (length all)
+  outward : EachAmong (get keys) (length keys) (get all) (length all)
   outward = within (same-sym (sorted-all .same))
 
-  keys-all : Keys (get all) (length all)
+  keys-all : AllKeys (get all) (length all)
   keys-all = among ks inward
 
   first-is : get all 0 ≡ first
@@ -150,7 +146,7 @@ module _ (keys up down up′ down′ old l : List ℕ) (first last u v ku kl : �
 
   -- and reflected
   back : ℕ → ℕ
-  back i = flip (get all (length all - suc i))
+  back i = reflected (get all (length all - suc i))
 
   mirrored : Mirrors (get all) (length all) back
   unfolding back
@@ -161,23 +157,23 @@ module _ (keys up down up′ down′ old l : List ℕ) (first last u v ku kl : �
 
   -- the parts are halves
   upper : Part (get keys) (length keys) (λ k. k) (get (take u up′)) (length (take u up′)) (Left first last) (NotLeft first last)
-  upper = part-front up up′ u ru room (hs .above)
+  upper = part-front up up′ u (ro .upper) room (hs .above)
 
-  lower : Part (get keys) (length keys) flip (get (take v down′)) (length (take v down′)) (Right first last) (NotRight first last)
-  lower = part-front down down′ v rv room′ (hs .below)
+  lower : Part (get keys) (length keys) reflected (get (take v down′)) (length (take v down′)) (Right first last) (NotRight first last)
+  lower = part-front down down′ v (ro .lower) room′ (hs .below)
 
   upper-half : Half (get all) (length all) (framed first (take u up′) last) (length (take u up′) + 2)
   upper-half =
       half-of (get all) (length all) first last (take u up′) (omega (arith, hs .few, many, length-take-le u up′ room)) h first-is last-is
-      (sorted-front up up′ u ru room) (upper-amid ends ks upper)
+      (sorted-front up up′ u (ro .upper) room) (upper-amid ends ks upper)
       (record { find = λ j o. let r = upper .from j o in let s = outward .find (r .0) (r .1) in (s .0, s .1, r .2 ∙ s .2) })
       (λ i o. let r = inward .find i o in rw (r .2) (upper .rest (r .0) (r .1)))
 
-  lower-half : Half back (length all) (framed (flip last) (take v down′) (flip first)) (length (take v down′) + 2)
+  lower-half : Half back (length all) (framed (reflected last) (take v down′) (reflected first)) (length (take v down′) + 2)
   lower-half =
-      half-of back (length all) (flip last) (flip first) (take v down′) (omega (arith, hs .few, many, length-take-le v down′ room′)) (flip-less (last-key ends ks) h)
-      (mirrored .is 0 (length all - 1) (omega (arith, many, hs .few)) ∙ ap flip last-is) (mirrored .is (length all - 1) 0 (omega (arith, many, hs .few)) ∙ ap flip first-is)
-      (sorted-front down down′ v rv room′) (lower-amid ends ks lower)
+      half-of back (length all) (reflected last) (reflected first) (take v down′) (omega (arith, hs .few, many, length-take-le v down′ room′)) (reflected-less (last-key ends ks) h)
+      (mirrored .is 0 (length all - 1) (omega (arith, many, hs .few)) ∙ ap reflected last-is) (mirrored .is (length all - 1) 0 (omega (arith, many, hs .few)) ∙ ap reflected first-is)
+      (sorted-front down down′ v (ro .lower) room′) (lower-amid ends ks lower)
       (record { find = find }) rest
     where
       find : (j : ℕ) → j < length (take v down′) → Among back (length all) (get (take v down′) j)
@@ -185,13 +181,13 @@ module _ (keys up down up′ down′ old l : List ℕ) (first last u v ku kl : �
           let r = lower .from j o in
           let s = outward .find (r .0) (r .1) in
           let z : s .0 < length all = s .1 in
-          (length all - suc (s .0), omega arith, r .2 ∙ ap flip (s .2) ∙ sym (mirrored .is (length all - suc (s .0)) (s .0) (omega arith)))
+          (length all - suc (s .0), omega arith, r .2 ∙ ap reflected (s .2) ∙ sym (mirrored .is (length all - suc (s .0)) (s .0) (omega arith)))
 
-      rest : (i : ℕ) → i < length all → Among (get (take v down′)) (length (take v down′)) (back i) ⊎ (turn (flip last) (flip first) (back i) ≤ℤ pos 0)
+      rest : (i : ℕ) → i < length all → Among (get (take v down′)) (length (take v down′)) (back i) ⊎ (turn (reflected last) (reflected first) (back i) ≤ℤ pos 0)
       rest i o =
           let r = inward .find (length all - suc i) (omega arith) in
           rw (mirrored .is i (length all - suc i) (omega arith), r .2)
-          (⊎-elim inl (λ t. inr (rw (flip-turn (last-key ends ks) (first-key ends ks) (ks .key (r .0) (r .1))) (turn-over first last (get keys (r .0)) t))) (lower .rest (r .0) (r .1)))
+          (⊎-elim inl (λ t. inr (rw (reflected-turn (last-key ends ks) (first-key ends ks) (ks .key (r .0) (r .1))) (turn-over first last (get keys (r .0)) t))) (lower .rest (r .0) (r .1)))
 
   -- the chains of all, by their sides
   cu′ : Chain (get all) (length all) (get old) (suc (ku - 1))
@@ -204,19 +200,20 @@ module _ (keys up down up′ down′ old l : List ℕ) (first last u v ku kl : �
   cl′ =
       let e : kl ≡ suc (kl - 1) = omega (arith, cl .some) in
       subst (λ k. Chain back (length all) (get l) k) e
-      (widen back (length all) back-sorted (framed (flip last) (take v down′) (flip first)) (length (take v down′) + 2) lower-half (get l) kl cl)
+      (widen back (length all) back-sorted (framed (reflected last) (take v down′) (reflected first)) (length (take v down′) + 2) lower-half (get l) kl
+      (rw (← f-is, ← l-is) cl))
 
   ends-all : get all 0 < get all (length all - 1)
   ends-all = omega (arith, first-is, last-is)
 
-  pub made-few : ku - 1 + (kl - 1) ≤ length keys
+  made-few : ku - 1 + (kl - 1) ≤ length keys
   made-few = omega (arith, many, sides-few (get all) (length all) (sorted-all .sorted) keys-all ends-all (get old) (ku - 1) cu′ back mirrored (get l) (kl - 1) cl′)
 
-  pub made-lower : Keys (get l) (kl - 1)
+  made-lower : AllKeys (get l) (kl - 1)
   made-lower = record { key = λ j o. chain-keys (mirror-keys (get all) (length all) back keys-all mirrored) (omega arith) cl′ .key j (omega arith) }
 
-  pub made : (new : List ℕ) → length keys ≤ length new → Appended flip (get old) (get new) (get l) (ku - 1) (kl - 1) → Hull keys new (ku - 1 + (kl - 1))
-  made new long w =
+  made-hull : (new : List ℕ) → length keys ≤ length new → Appended reflected (get old) (get new) (get l) (ku - 1) (kl - 1) → Hull keys new (ku - 1 + (kl - 1))
+  made-hull new long w =
       same-hull (omega (arith, many)) inward outward
       (closed-hull all new (ku - 1 + (kl - 1)) (omega (arith, made-few)) keys-all
       (closed-is (get all) (length all) (sorted-all .sorted) keys-all ends-all (get old) (ku - 1) cu′ back mirrored (get l) (kl - 1) cl′
@@ -224,8 +221,11 @@ module _ (keys up down up′ down′ old l : List ℕ) (first last u v ku kl : �
       (λ j o. getD-take (ku - 1 + (kl - 1)) new j 0 (omega arith) ∙ w .before j o)
       (λ i o. getD-take (ku - 1 + (kl - 1)) new (ku - 1 + i) 0 (omega arith) ∙ w .after i o)))
 
+  pub made : TwoChains keys old l ku kl
+  made = record { few = made-few; lower = made-lower; hull = made-hull }
+
 -- the same where all keys are one
-pub made-one : (keys out : List ℕ) (first last : ℕ) → 1 ≤ length keys → 1 ≤ length out → Keys (get keys) (length keys) → EndsOf keys first last
+pub made-one : (keys out : List ℕ) (first last : ℕ) → 1 ≤ length keys → 1 ≤ length out → AllKeys (get keys) (length keys) → EndsOf keys first last
     → last ≤ first → get out 0 ≡ first → Hull keys out 1
 made-one keys out first last some long ks ends same e =
     closed-hull keys out 1 long ks (single-key (get keys) (length keys) (get (take 1 out)) some (λ i o. is i o ∙ sym (is 0 some)) (getD-take 1 out 0 0 (omega arith) ∙ e ∙ sym (is 0 some)))

@@ -16,7 +16,7 @@ use Rattle.plane.proofs.PolygonFacts.{TurnsRight, Between}
 use Rattle.plane.proofs.Outline.{Outline, one-point, in-line, area}
 use Rattle.turns.specs.Keys.{pointOf}
 use Rattle.turns.proofs.Order.{point-injective}
-use Rattle.sorting.specs.Order.{get, Within}
+use Rattle.sorting.specs.Order.{get, EachAmong}
 use Rattle.hulls.specs.Chains.{turn}
 use Rattle.hulls.proofs.Turning.{turn-back, between}
 use Rattle.hulls.proofs.Listing.{Next, on, round, Closed}
@@ -96,7 +96,7 @@ closed-outline keys (x ∷ y ∷ z ∷ vs) c = area members (apart keys l c) sid
         (bend keys l c (suc (length (map pointOf (z ∷ vs)))) 0 1 (omega arith) (round (omega (arith, n)) refl) (on (omega arith) refl))
 
 -- each of the one keys is among the others, so each of their points is
-pub within-points : (l m : List ℕ) → Within (get l) (length l) (get m) (length m) → (p : Point) → p ∈ map pointOf l → p ∈ map pointOf m
+pub within-points : (l m : List ℕ) → EachAmong (get l) (length l) (get m) (length m) → (p : Point) → p ∈ map pointOf l → p ∈ map pointOf m
 within-points l m w p h =
     let r = from-point l h in
     let s = w .find (r .0) (r .1) in

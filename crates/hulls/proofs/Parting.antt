@@ -10,14 +10,14 @@ use lib.Signed.{_≤ℤ_, _<ℤ_}
 use lib.ListN.{length, take}
 use lib.Seq.{length-take-le, getD-take}
 use Rattle.integers.proofs.Rules.{zrules}
-use Rattle.sorting.specs.Order.{get, Sorted, Within}
-use Rattle.turns.specs.Keys.{Key}
-use Rattle.hulls.specs.Chains.{Keys, turn}
-use Rattle.hulls.specs.Mirrors.{flip}
-use Rattle.hulls.specs.Inner.{Among}
-use Rattle.hulls.specs.Halves.{EndsOf, Part, Reordered, Amid, framed}
+use Rattle.sorting.specs.Order.{get, Sorted, EachAmong}
+use Rattle.turns.specs.Keys.{Key, AllKeys}
+use Rattle.turns.specs.Reflection.{reflected}
+use Rattle.turns.proofs.Reflection.{reflected-key, reflected-less}
+use Rattle.hulls.specs.Chains.{turn}
+use Rattle.extremes.specs.Inner.{Among, EndsOf}
+use Rattle.hulls.specs.Halves.{Part, Reordered, Amid, framed}
 use Rattle.hulls.proofs.Turning.{turn-first, turn-last}
-use Rattle.hulls.proofs.Mirroring.{flip-key, flip-less}
 use Rattle.hulls.proofs.Framing.{Place, at-first, amid, at-last, place-of, framed-at, framed-last, framed-sorted}
 use Rattle.hulls.proofs.Halving.{Half, Left, Right, NotLeft, NotRight}
 
@@ -69,7 +69,7 @@ module _ {keys : List ℕ} {first last : ℕ} (ends : EndsOf keys first last) wh
       go (yes o) = o
       go (no o) = let e : get keys i ≡ last = omega (arith, ends .most i h) in absurd (off (get keys i) (rw e (turn-last first last)) t)
 
-  module _ (ks : Keys (get keys) (length keys)) where
+  module _ (ks : AllKeys (get keys) (length keys)) where
     pub first-key : Key first
     first-key = let r = ends .first-in in subst Key (sym (r .2)) (ks .key (r .0) (r .1))
 
@@ -85,25 +85,25 @@ module _ {keys : List ℕ} {first last : ℕ} (ends : EndsOf keys first last) wh
             below = λ j h. let r = p .from j h in rw (r .2) (before-last (r .0) (r .1) (inl (r .3)));
           }
 
-      pub upper-keys : Keys out u
+      pub upper-keys : AllKeys out u
       upper-keys = record { key = λ j h. let r = p .from j h in subst Key (sym (r .2)) (ks .key (r .0) (r .1)) }
 
     -- the part that is right of it, reflected
-    module _ {out : ℕ → ℕ} {v : ℕ} (p : Part (get keys) (length keys) flip out v (Right first last) (NotRight first last)) where
-      pub lower-amid : Amid out v (flip last) (flip first)
+    module _ {out : ℕ → ℕ} {v : ℕ} (p : Part (get keys) (length keys) reflected out v (Right first last) (NotRight first last)) where
+      pub lower-amid : Amid out v (reflected last) (reflected first)
       lower-amid =
           record {
-            above = λ j h. let r = p .from j h in rw (r .2) (flip-less last-key (before-last (r .0) (r .1) (inr (r .3))));
-            below = λ j h. let r = p .from j h in rw (r .2) (flip-less (ks .key (r .0) (r .1)) (after-first (r .0) (r .1) (inr (r .3))));
+            above = λ j h. let r = p .from j h in rw (r .2) (reflected-less last-key (before-last (r .0) (r .1) (inr (r .3))));
+            below = λ j h. let r = p .from j h in rw (r .2) (reflected-less (ks .key (r .0) (r .1)) (after-first (r .0) (r .1) (inr (r .3))));
           }
 
-      pub lower-keys : Keys out v
-      lower-keys = record { key = λ j h. let r = p .from j h in subst Key (sym (r .2)) (flip-key (ks .key (r .0) (r .1))) }
+      pub lower-keys : AllKeys out v
+      lower-keys = record { key = λ j h. let r = p .from j h in subst Key (sym (r .2)) (reflected-key (ks .key (r .0) (r .1))) }
 
 -- ---- a part is a half: q are all keys in order, or the reflected ones
 
 module _ (q : ℕ → ℕ) (m first last : ℕ) (l : List ℕ) (room : length l + 2 ≤ m) (h : first < last) (at-0 : q 0 ≡ first) (at-m : q (m - 1) ≡ last)
-    (srt : Sorted (get l) 0 (length l)) (am : Amid (get l) (length l) first last) (w : Within (get l) (length l) q m)
+    (srt : Sorted (get l) 0 (length l)) (am : Amid (get l) (length l) first last) (w : EachAmong (get l) (length l) q m)
     (rest : (i : ℕ) → i < m → Among (get l) (length l) (q i) ⊎ (turn first last (q i) ≤ℤ pos 0)) where
   pub half-of : Half q m (framed first l last) (length l + 2)
   half-of =

@@ -13,11 +13,11 @@ use Rattle.integers.proofs.Expr.{_⊕_, _⊖_, _⊗_, ⊝_, #_, _≐_, _≼_, _
 use Rattle.integers.proofs.Ring.{ring}
 use Rattle.integers.proofs.Cert.{cert, hyp, sq, eqn, _⊞_, _⊠_, _∵_, _∵_÷_}
 use Rattle.integers.proofs.Order.{<→≤, ≡→≤, lt-or-ge}
-use Rattle.plane.specs.Points.{Point, point, signedArea}
+use Rattle.plane.specs.Points.{Point, point, signedArea, dotProduct as along-way}
 use Rattle.plane.proofs.Twins.{pt, signedAreaᴱ, det, detᴱ}
 use Rattle.plane.proofs.Angular.{Up, ahead, above, right-trans, right-trans-l}
 use Rattle.plane.proofs.PolygonFacts.{Between}
-use Rattle.plane.proofs.Sides.{ahead as along-way, aheadᴱ}
+use Rattle.plane.proofs.Sides.{dotProductᴱ}
 use Rattle.turns.specs.Keys.{pointOf}
 use Rattle.turns.proofs.Order.{up}
 use Rattle.hulls.specs.Chains.{turn}
@@ -183,11 +183,11 @@ between {a} {b} {q} h k l e =
   where
     past : Dec (a < q) → pos 0 ≤ℤ along-way (pointOf a) (pointOf b) (pointOf q)
     past (yes o) = same-way (step a b) (step a q) (up h) (up o) e
-    past (no o) = let z : q ≡ a = omega arith in rw z (≡→≤ (ring 2 0 (λ a b. # 0 ≐ aheadᴱ a b a) tt (place a) (place b)))
+    past (no o) = let z : q ≡ a = omega arith in rw z (≡→≤ (ring 2 0 (λ a b. # 0 ≐ dotProductᴱ a b a) tt (place a) (place b)))
 
     prior : Dec (q < b) → pos 0 ≤ℤ along-way (pointOf b) (pointOf a) (pointOf q)
     prior (yes o) =
-        cert 3 0 (λ a b q. # 0 ≼ (b .0 ⊖ a .0) ⊗ (b .0 ⊖ q .0) ⊕ (b .1 ⊖ a .1) ⊗ (b .1 ⊖ q .1) ⟹ # 0 ≼ aheadᴱ b a q ∵ hyp 0) tt (place a) (place b) (place q)
+        cert 3 0 (λ a b q. # 0 ≼ (b .0 ⊖ a .0) ⊗ (b .0 ⊖ q .0) ⊕ (b .1 ⊖ a .1) ⊗ (b .1 ⊖ q .1) ⟹ # 0 ≼ dotProductᴱ b a q ∵ hyp 0) tt (place a) (place b) (place q)
         (same-way (step a b) (step q b) (up h) (up o)
         (cert 3 0 (λ a b q. signedAreaᴱ a b q ≐ # 0 ⟹ detᴱ (wayᴱ a b) (wayᴱ q b) ≐ # 0 ∵ eqn 0 (⊝ # 1)) tt (place a) (place b) (place q) e))
-    prior (no o) = let z : q ≡ b = omega arith in rw z (≡→≤ (ring 2 0 (λ a b. # 0 ≐ aheadᴱ b a b) tt (place a) (place b)))
+    prior (no o) = let z : q ≡ b = omega arith in rw z (≡→≤ (ring 2 0 (λ a b. # 0 ≐ dotProductᴱ b a b) tt (place a) (place b)))

@@ -5,11 +5,7 @@ use Prim.Native.Nat.{ℕ, suc, _≤_, _<_}
 use lib.IntN.{ℤ, pos}
 use lib.Signed.{_≤ℤ_, _<ℤ_}
 use Rattle.plane.specs.Points.{signedArea}
-use Rattle.turns.specs.Keys.{Key, pointOf}
-
--- the first m numbers are keys of points of the span
-pub record Keys (q : ℕ → ℕ) (m : ℕ) : Type 0 where
-  pub key : (i : ℕ) → i < m → Key (q i)
+use Rattle.turns.specs.Keys.{pointOf}
 
 -- twice the signed area of the triangle of three keys' points: less than 0 at a right turn
 unfoldable pub turn : ℕ → ℕ → ℕ → ℤ

@@ -4,9 +4,8 @@ use mathlib.Core.List.{List, map}
 use Prim.Native.Nat.{ℕ, _≤_, _<_}
 use lib.ListN.{length, take}
 use Rattle.plane.specs.Polygons.{Polygon}
-use Rattle.turns.specs.Keys.{pointOf}
+use Rattle.turns.specs.Keys.{pointOf, AllKeys}
 use Rattle.sorting.specs.Order.{get}
-use Rattle.hulls.specs.Chains.{Keys}
 
 -- x is the least number of the list: of keys, that of the westmost point, and the southmost of those
 pub record Least (l : List ℕ) (x : ℕ) : Type 0 where
@@ -17,6 +16,6 @@ pub record Least (l : List ℕ) (x : ℕ) : Type 0 where
 pub record Hull (keys vertices : List ℕ) (count : ℕ) : Type 0 where
   pub some : 1 ≤ count
   pub few : count ≤ length keys
-  pub listed : Keys (get vertices) count
+  pub listed : AllKeys (get vertices) count
   pub polygon : Polygon (map pointOf keys) (map pointOf (take count vertices))
   pub first : Least keys (get vertices 0)

@@ -1,11 +1,7 @@
 -- What the contracts of the crate cite.
 --     Chains   keys, the upper chain of some keys, and what popping leaves of one
---     Mirrors  keys reflected through the middle of the plane
---     Inner    keys that are dropped before sorting
 --     Halves   keys split by the line from the least to the greatest, and the two parts in order
 --     Hulls    the polygon of a list of keys
 pub mod Chains
-pub mod Mirrors
-pub mod Inner
 pub mod Halves
 pub mod Hulls

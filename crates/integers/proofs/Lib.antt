@@ -2,7 +2,7 @@
 --     an identity                        Ring    ring 3 0 (λ a b c. …) tt
 --     a linear order or equation         Lin     lin 0 3 (λ a b c. …) (omega arith);  Rules, with no sums: omega zrules
 --     an order between polynomials       Poly    poly 3 0 (λ a b c. … from []) tt (omega arith);  Cert, by a certificate: cert 3 0 (λ a b c. … ∵ …) tt
---     a law by name                      Laws, Order
+--     a law by name                      Order
 --     a signed machine operation fits    Machine, by bounds
 --     a test or an element in code       Tests
 --     a part of a lent slice             Parts
@@ -12,7 +12,6 @@ pub mod Expr
 pub mod Lin
 pub mod Rules
 pub mod Ring
-pub mod Laws
 pub mod Order
 pub mod Cert
 pub mod Poly

@@ -1,14 +1,14 @@
 -- The order of the integers. lib.Signed has ≤ℤ-refl, <ℤ-≤ℤ-trans, <ℤ-irrefl and clashℤ.
 -- What is linear is `lin`'s, and a product's sign comes from `mul-nn` and `mul-pos`. Numbers are implicit where a hypothesis shows them.
 -- Assumes nothing.
-use mathlib.Core.Path.{_≡_, sym, _∙_, ap}
+use mathlib.Core.Path.{_≡_, sym}
 use mathlib.Core.Bool.{Bool, true, false, not}
-use mathlib.Core.Logic.{_≢_, _⊎_, inl, inr, ⊎-elim}
+use mathlib.Core.Logic.{_⊎_, inl, inr, ⊎-elim}
 use Prim.Native.Nat.{ℕ, suc, _*_, zero-le}
 use native.Mathlib.Omega.{arith}
 use lib.Dec.{T, le→leb}
-use lib.IntN.{ℤ, pos, negsuc, _+ℤ_, _*ℤ_, _-ℤ_, negℤ, zero-*ℤ}
-use lib.Signed.{_≤ℤ_, _<ℤ_, ltZ, ltZ-yes, ltZ-no, clashℤ}
+use lib.IntN.{ℤ, pos, negsuc, _+ℤ_, _*ℤ_, _-ℤ_, negℤ}
+use lib.Signed.{_≤ℤ_, _<ℤ_, ltZ, ltZ-yes, ltZ-no}
 use Rattle.integers.proofs.Expr.{_⊕_, _⊖_, _⊗_, ⊝_, #_, _≐_, _≼_, _≺_, _⟹_, _&_, bot}
 use Rattle.integers.proofs.Lin.{lin}
 
@@ -27,9 +27,6 @@ pub ≤-trans : {a b c : ℤ} → a ≤ℤ b → b ≤ℤ c → a ≤ℤ c
 
 pub ≤-<-trans : {a b c : ℤ} → a ≤ℤ b → b <ℤ c → a <ℤ c
 ≤-<-trans {a} {b} {c} = lin 0 3 (λ a b c. a ≼ b ⟹ b ≺ c ⟹ a ≺ c) (omega arith) a b c
-
-pub <-trans : {a b c : ℤ} → a <ℤ b → b <ℤ c → a <ℤ c
-<-trans {a} {b} {c} = lin 0 3 (λ a b c. a ≺ b ⟹ b ≺ c ⟹ a ≺ c) (omega arith) a b c
 
 pub <→≤ : {a b : ℤ} → a <ℤ b → a ≤ℤ b
 <→≤ {a} {b} = lin 0 2 (λ a b. a ≺ b ⟹ a ≼ b) (omega arith) a b
@@ -72,26 +69,11 @@ pub ≤-dec : (a b : ℤ) → Dec (a ≤ℤ b)
     go (inl h) = no (λ k. lin 0 2 (λ a b. b ≺ a ⟹ a ≼ b ⟹ bot) (omega arith) a b h k)
     go (inr h) = yes h
 
-pub <-dec : (a b : ℤ) → Dec (a <ℤ b)
-<-dec a b = go (lt-or-ge a b)
-  where
-    go : (a <ℤ b) ⊎ (b ≤ℤ a) → Dec (a <ℤ b)
-    go (inl h) = yes h
-    go (inr h) = no (λ k. lin 0 2 (λ a b. a ≺ b ⟹ b ≼ a ⟹ bot) (omega arith) a b k h)
-
 pub not-≤ : {a b : ℤ} → ¬ (a ≤ℤ b) → b <ℤ a
 not-≤ {a} {b} f = ⊎-elim (λ h. h) (λ h. absurd (f h)) (lt-or-ge b a)
 
 pub not-< : {a b : ℤ} → ¬ (a <ℤ b) → b ≤ℤ a
 not-< {a} {b} f = ⊎-elim (λ h. absurd (f h)) (λ h. h) (lt-or-ge a b)
-
-pub ≢-lt-or-gt : {a b : ℤ} → a ≢ b → (a <ℤ b) ⊎ (b <ℤ a)
-≢-lt-or-gt {a} {b} f = go (compareℤ a b)
-  where
-    go : Cmp a b → (a <ℤ b) ⊎ (b <ℤ a)
-    go (is-less h) = inl h
-    go (is-same h) = absurd (f h)
-    go (is-more h) = inr h
 
 -- ---- an order and the sign of a difference
 
@@ -107,16 +89,10 @@ pub <→pos : {a b : ℤ} → a <ℤ b → pos 0 <ℤ (b -ℤ a)
 pub pos→< : {a b : ℤ} → pos 0 <ℤ (b -ℤ a) → a <ℤ b
 pos→< {a} {b} = lin 0 2 (λ a b. # 0 ≺ b ⊖ a ⟹ a ≺ b) (omega arith) a b
 
-pub <→suc≤ : {a b : ℤ} → a <ℤ b → (a +ℤ pos 1) ≤ℤ b
-<→suc≤ {a} {b} = lin 0 2 (λ a b. a ≺ b ⟹ a ⊕ # 1 ≼ b) (omega arith) a b
-
 -- ---- sums
 
 pub +-mono : {a b c d : ℤ} → a ≤ℤ b → c ≤ℤ d → (a +ℤ c) ≤ℤ (b +ℤ d)
 +-mono {a} {b} {c} {d} = lin 0 4 (λ a b c d. a ≼ b ⟹ c ≼ d ⟹ a ⊕ c ≼ b ⊕ d) (omega arith) a b c d
-
-pub +-mono-< : {a b c d : ℤ} → a <ℤ b → c ≤ℤ d → (a +ℤ c) <ℤ (b +ℤ d)
-+-mono-< {a} {b} {c} {d} = lin 0 4 (λ a b c d. a ≺ b ⟹ c ≼ d ⟹ a ⊕ c ≺ b ⊕ d) (omega arith) a b c d
 
 pub add-nn : {a b : ℤ} → pos 0 ≤ℤ a → pos 0 ≤ℤ b → pos 0 ≤ℤ (a +ℤ b)
 add-nn {a} {b} = lin 0 2 (λ a b. # 0 ≼ a ⟹ # 0 ≼ b ⟹ # 0 ≼ a ⊕ b) (omega arith) a b
@@ -161,14 +137,8 @@ mul-nn-np {a} {b} h k = lin 0 2 (λ a b. # 0 ≼ a ⊗ ⊝ b ⟹ a ⊗ b ≼ # 0
 pub mul-np-nn : {a b : ℤ} → a ≤ℤ pos 0 → pos 0 ≤ℤ b → (a *ℤ b) ≤ℤ pos 0
 mul-np-nn {a} {b} h k = lin 0 2 (λ a b. # 0 ≼ ⊝ a ⊗ b ⟹ a ⊗ b ≼ # 0) (omega arith) a b (mul-nn (np-of h) k)
 
-pub mul-np-np : {a b : ℤ} → a ≤ℤ pos 0 → b ≤ℤ pos 0 → pos 0 ≤ℤ (a *ℤ b)
-mul-np-np {a} {b} h k = lin 0 2 (λ a b. # 0 ≼ ⊝ a ⊗ ⊝ b ⟹ # 0 ≼ a ⊗ b) (omega arith) a b (mul-nn (np-of h) (np-of k))
-
 pub mul-pos-neg : {a b : ℤ} → pos 0 <ℤ a → b <ℤ pos 0 → (a *ℤ b) <ℤ pos 0
 mul-pos-neg {a} {b} h k = lin 0 2 (λ a b. # 0 ≺ a ⊗ ⊝ b ⟹ a ⊗ b ≺ # 0) (omega arith) a b (mul-pos h (neg-of k))
-
-pub mul-neg-pos : {a b : ℤ} → a <ℤ pos 0 → pos 0 <ℤ b → (a *ℤ b) <ℤ pos 0
-mul-neg-pos {a} {b} h k = lin 0 2 (λ a b. # 0 ≺ ⊝ a ⊗ b ⟹ a ⊗ b ≺ # 0) (omega arith) a b (mul-pos (neg-of h) k)
 
 pub mul-neg-neg : {a b : ℤ} → a <ℤ pos 0 → b <ℤ pos 0 → pos 0 <ℤ (a *ℤ b)
 mul-neg-neg {a} {b} h k = lin 0 2 (λ a b. # 0 ≺ ⊝ a ⊗ ⊝ b ⟹ # 0 ≺ a ⊗ b) (omega arith) a b (mul-pos (neg-of h) (neg-of k))
@@ -180,9 +150,6 @@ pos-of-mul {a} b h k = not-≤ (λ j. lin 0 1 (λ c. c ≼ # 0 ⟹ # 0 ≺ c ⟹
 
 pub nn-of-mul : {a : ℤ} (b : ℤ) → pos 0 <ℤ a → pos 0 ≤ℤ (a *ℤ b) → pos 0 ≤ℤ b
 nn-of-mul {a} b h k = not-< (λ j. lin 0 1 (λ c. c ≺ # 0 ⟹ # 0 ≼ c ⟹ bot) (omega arith) (a *ℤ b) (mul-pos-neg h j) k)
-
-pub neg-of-mul : {a : ℤ} (b : ℤ) → pos 0 <ℤ a → (a *ℤ b) <ℤ pos 0 → b <ℤ pos 0
-neg-of-mul {a} b h k = not-≤ (λ j. lin 0 1 (λ c. # 0 ≼ c ⟹ c ≺ # 0 ⟹ bot) (omega arith) (a *ℤ b) (mul-nn (<→≤ h) j) k)
 
 pub np-of-mul : {a : ℤ} (b : ℤ) → pos 0 <ℤ a → (a *ℤ b) ≤ℤ pos 0 → b ≤ℤ pos 0
 np-of-mul {a} b h k = not-< (λ j. lin 0 1 (λ c. # 0 ≺ c ⟹ c ≼ # 0 ⟹ bot) (omega arith) (a *ℤ b) (mul-pos h j) k)
@@ -198,44 +165,13 @@ mul-zero a b e = go (compareℤ a (pos 0))
     go (is-same h) = inl h
     go (is-more h) = inr (zero-of-mul b h e)
 
--- the signs of two factors, from the product's
-pub mul-pos-cases : (a b : ℤ) → pos 0 <ℤ (a *ℤ b) → ((pos 0 <ℤ a) × (pos 0 <ℤ b)) ⊎ ((a <ℤ pos 0) × (b <ℤ pos 0))
-mul-pos-cases a b h = go (compareℤ a (pos 0))
-  where
-    go : Cmp a (pos 0) → ((pos 0 <ℤ a) × (pos 0 <ℤ b)) ⊎ ((a <ℤ pos 0) × (b <ℤ pos 0))
-    go (is-less k) = inr (k, not-≤ (λ j. clashℤ h (mul-np-nn (<→≤ k) j)))
-    go (is-same k) = absurd (lin 0 2 (λ c b. c ≼ # 0 ⟹ # 0 ≺ c ⟹ bot) (omega arith) (a *ℤ b) b (mul-np-zero k) h)
-      where
-        mul-np-zero : a ≡ pos 0 → (a *ℤ b) ≤ℤ pos 0
-        mul-np-zero e = ≡→≤ (ap (λ x. x *ℤ b) e ∙ zero-*ℤ b)
-    go (is-more k) = inl (k, pos-of-mul b k h)
-
-pub mul-neg-cases : (a b : ℤ) → (a *ℤ b) <ℤ pos 0 → ((pos 0 <ℤ a) × (b <ℤ pos 0)) ⊎ ((a <ℤ pos 0) × (pos 0 <ℤ b))
-mul-neg-cases a b h = go (mul-pos-cases a (negℤ b) (lin 0 2 (λ a b. a ⊗ b ≺ # 0 ⟹ # 0 ≺ a ⊗ ⊝ b) (omega arith) a b h))
-  where
-    go : ((pos 0 <ℤ a) × (pos 0 <ℤ negℤ b)) ⊎ ((a <ℤ pos 0) × (negℤ b <ℤ pos 0)) → ((pos 0 <ℤ a) × (b <ℤ pos 0)) ⊎ ((a <ℤ pos 0) × (pos 0 <ℤ b))
-    go (inl p) = inl (p .0, lin 0 1 (λ b. # 0 ≺ ⊝ b ⟹ b ≺ # 0) (omega arith) b (p .1))
-    go (inr p) = inr (p .0, lin 0 1 (λ b. ⊝ b ≺ # 0 ⟹ # 0 ≺ b) (omega arith) b (p .1))
-
 -- ---- a factor on both sides
 
 pub *-mono-l : {a b : ℤ} (c : ℤ) → pos 0 ≤ℤ c → a ≤ℤ b → (c *ℤ a) ≤ℤ (c *ℤ b)
 *-mono-l {a} {b} c h k = lin 0 3 (λ a b c. # 0 ≼ c ⊗ (b ⊖ a) ⟹ c ⊗ a ≼ c ⊗ b) (omega arith) a b c (mul-nn h (≤→nn k))
 
-pub *-mono-r : {a b : ℤ} (c : ℤ) → pos 0 ≤ℤ c → a ≤ℤ b → (a *ℤ c) ≤ℤ (b *ℤ c)
-*-mono-r {a} {b} c h k = lin 0 3 (λ a b c. # 0 ≼ c ⊗ (b ⊖ a) ⟹ a ⊗ c ≼ b ⊗ c) (omega arith) a b c (mul-nn h (≤→nn k))
-
-pub *-mono-<-l : {a b : ℤ} (c : ℤ) → pos 0 <ℤ c → a <ℤ b → (c *ℤ a) <ℤ (c *ℤ b)
-*-mono-<-l {a} {b} c h k = lin 0 3 (λ a b c. # 0 ≺ c ⊗ (b ⊖ a) ⟹ c ⊗ a ≺ c ⊗ b) (omega arith) a b c (mul-pos h (<→pos k))
-
 pub *-cancel-≤ : {a b : ℤ} (c : ℤ) → pos 0 <ℤ c → (c *ℤ a) ≤ℤ (c *ℤ b) → a ≤ℤ b
 *-cancel-≤ {a} {b} c h k = nn→≤ (nn-of-mul (b -ℤ a) h (lin 0 3 (λ a b c. c ⊗ a ≼ c ⊗ b ⟹ # 0 ≼ c ⊗ (b ⊖ a)) (omega arith) a b c k))
-
-pub *-cancel-< : {a b : ℤ} (c : ℤ) → pos 0 <ℤ c → (c *ℤ a) <ℤ (c *ℤ b) → a <ℤ b
-*-cancel-< {a} {b} c h k = pos→< (pos-of-mul (b -ℤ a) h (lin 0 3 (λ a b c. c ⊗ a ≺ c ⊗ b ⟹ # 0 ≺ c ⊗ (b ⊖ a)) (omega arith) a b c k))
-
-pub *-cancel : {a b : ℤ} (c : ℤ) → c ≢ pos 0 → c *ℤ a ≡ c *ℤ b → a ≡ b
-*-cancel {a} {b} c f e = ⊎-elim (λ z. absurd (f z)) (lin 0 2 (λ a b. b ⊖ a ≐ # 0 ⟹ a ≐ b) (omega arith) a b) (mul-zero c (b -ℤ a) (lin 0 3 (λ a b c. c ⊗ a ≐ c ⊗ b ⟹ c ⊗ (b ⊖ a) ≐ # 0) (omega arith) a b c e))
 
 -- ---- bounds
 

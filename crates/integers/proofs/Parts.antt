@@ -2,11 +2,11 @@
 use mathlib.Core.Path.{_≡_, refl, sym, _∙_, ap}
 use mathlib.Core.List.{List, _∷_, _++_, append-nil, append-assoc}
 use Prim.Native.Nat.{ℕ, suc, _+_, _-_, _≤_, _<_}
-use native.Mathlib.Nat.{le-of-lt, le-of-eq, add-zero}
+use native.Mathlib.Nat.{le-of-lt, le-of-eq}
 use native.Mathlib.Numerals.{add-one}
 use native.Mathlib.Omega.{arith}
-use lib.ListN.{length, getD, take, drop, set, length-drop, drop-of-length-le, take-append-drop}
-use lib.Seq.{drop-cons, take-suc, take-all, set-at, append-snoc, length-take-le, take-set-le, drop-set-add, take-at, drop-at, drop-drop}
+use lib.ListN.{length, getD, take, drop, set, length-drop, drop-of-length-le}
+use lib.Seq.{drop-cons, take-suc, take-all, set-at, append-snoc, length-take-le, take-at, drop-at, drop-drop}
 
 module _ {A : Type 0} where
   -- the next two and the next four elements from i on; z stands for what is past the end
@@ -38,19 +38,6 @@ module _ {A : Type 0} where
       ap (λ (l : List A). take k xs ++ l)
       (ap (λ (l : List A). ys ++ l) (drop-of-length-le (drop k xs) (le-of-eq (length-drop k xs)))
       ∙ append-nil ys ∙ e ∙ ap f (tail-is k xs))
-
-  -- a store in the part is one in the whole
-  pub set-tail : (k i : ℕ) (xs : List A) (a : A) → take k xs ++ set (drop k xs) i a ≡ set xs (k + i) a
-  set-tail k i xs a =
-      let h : k ≤ k + i = omega arith in
-      sym (ap (λ (l : List A). l ++ set (drop k xs) i a) (take-set-le k xs (k + i) a h))
-      ∙ sym (ap (λ (l : List A). take k (set xs (k + i) a) ++ l) (drop-set-add k xs i a))
-      ∙ take-append-drop k (set xs (k + i) a)
-
-  pub set-tail-2 : (k : ℕ) (xs : List A) (a b : A) → take k xs ++ set (set (drop k xs) 0 a) 1 b ≡ set (set xs k a) (k + 1) b
-  set-tail-2 k xs a b =
-      let h : k ≤ k + 0 = omega arith in
-      rw (← drop-set-add k xs 0 a, ← take-set-le k xs (k + 0) a h, set-tail k 1 (set xs (k + 0) a) b, add-zero)
 
   -- two writes from the front, the second after the first
   pub then-write : (xs a b : List A) → length a ≤ length xs → take (length a) (a ++ drop (length a) xs) ++ (b ++ drop (length b) (drop (length a) (a ++ drop (length a) xs))) ≡ (a ++ b) ++ drop (length a + length b) xs

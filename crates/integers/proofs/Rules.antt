@@ -3,11 +3,11 @@
 -- A sum, a difference or a product x +ℤ y is an unknown too, of which `omega` learns by a fact that is handed over: `omega (zrules, sum x y)`.
 -- Where there are several of them, `lin` (module Lin) is shorter. Assumes nothing.
 use mathlib.Core.Path.{_≡_}
-use Prim.Native.Nat.{_+_, _*_, _≤_, _<_}
+use Prim.Native.Nat.{_+_, _≤_, _<_}
 use native.Mathlib.Omega.{arith}
-use lib.IntN.{ℤ, _+ℤ_, _*ℤ_, _-ℤ_, negℤ}
+use lib.IntN.{ℤ, _+ℤ_}
 use lib.Signed.{_≤ℤ_, _<ℤ_}
-use Rattle.integers.proofs.Diff.{pp, nn, is-self, is-neg, is-sub, le-is, is-le, lt-is, is-lt, is-eq, eq-is, add-is, mul-is}
+use Rattle.integers.proofs.Diff.{pp, nn, is-self, le-is, is-le, lt-is, is-lt, is-eq, eq-is, add-is}
 
 -- an order or an equation among the hypotheses, read over ℕ
 pub read-le : {a b : ℤ} → a ≤ℤ b → pp a + nn b ≤ pp b + nn a
@@ -34,12 +34,3 @@ pub ruleset zrules = (arith, read-le, read-lt, read-eq, make-le, make-lt, make-e
 -- what a term's two parts have to do with its operands'
 pub sum : (x y : ℤ) → pp (x +ℤ y) + (nn x + nn y) ≡ (pp x + pp y) + nn (x +ℤ y)
 sum x y = add-is x y
-
-pub diff : (x y : ℤ) → pp (x -ℤ y) + (nn x + pp y) ≡ (pp x + nn y) + nn (x -ℤ y)
-diff x y = (is-sub (is-self x) (is-self y)) .is
-
-pub negated : (x : ℤ) → pp (negℤ x) + pp x ≡ nn x + nn (negℤ x)
-negated x = (is-neg (is-self x)) .is
-
-pub prod : (x y : ℤ) → pp (x *ℤ y) + (pp x * nn y + nn x * pp y) ≡ (pp x * pp y + nn x * nn y) + nn (x *ℤ y)
-prod x y = mul-is x y

@@ -30,9 +30,6 @@ module _ {w : Width} {y z : ℤ} (fy : SFits w y) (fz : SFits w z) where
   pub ltz : ltZ (toZ w (ofZ w y)) (toZ w (ofZ w z)) ≡ ltZ y z
   ltz = rw (toZ-ofZ w y fy, toZ-ofZ w z fz)
 
-  pub lez : leZ (toZ w (ofZ w y)) (toZ w (ofZ w z)) ≡ leZ y z
-  lez = rw (toZ-ofZ w y fy, toZ-ofZ w z fz)
-
   -- `y == z` compares the bits
   pub eqz : ofZ w y ≡ ofZ w z → y ≡ z
   eqz e = sym (toZ-ofZ w y fy) ∙ ap (toZ w) e ∙ toZ-ofZ w z fz

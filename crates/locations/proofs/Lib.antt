@@ -1,9 +1,9 @@
 -- Why the answers are right, over points:
---     Bounds      the sizes of signed areas and of dot products of points of the span
---     Vertices    the vertices of a polygon by their places: apart, with every point right of each side or on it, no three in line
---     Supporting  the first driver: a direction, or the plug is strictly inside
---     Balancing   the second driver: three weighted vertices, or the points are separated from the plug
-pub mod Bounds
+--     Vertices    the vertices of a polygon by their indices: apart, with every point right of each side or on it, no three in line
+--     Segments    one vertex or two: on the segment between them, or off
+--     Fans        three vertices or more: off by a side, on a side, or strictly within
+--     Exclusive   the three answers exclude each other
 pub mod Vertices
-pub mod Supporting
-pub mod Balancing
+pub mod Segments
+pub mod Fans
+pub mod Exclusive

@@ -1,25 +1,30 @@
--- The vertices of a polygon by their places, as a search over a slice of keys knows them. Assumes nothing.
+-- The vertices of a polygon by their indices, as a search over a slice of keys knows them. Assumes nothing.
 use Prim.Native.Nat.{ℕ, zero, suc, _+_, _-_, _≤_, _<_}
-use mathlib.Core.Path.{_≡_, refl, sym, ap, _∙_, subst, subst₂}
+use mathlib.Core.Path.{_≡_, sym, _∙_, subst, subst₂}
 use mathlib.Core.List.{List, [], _∷_, map}
 use native.Mathlib.Omega.{arith}
 use native.Mathlib.Numerals.{add-one}
 use lib.IntN.{pos}
 use lib.Signed.{_≤ℤ_, _<ℤ_}
 use lib.ListN.{length, getD, length-map, List·getD-map}
+use Rattle.integers.proofs.Expr.{#_, _≼_, _⟹_}
+use Rattle.integers.proofs.Cert.{cert, hyp, _∵_}
 use Rattle.integers.proofs.Order.{≡→≤, ≤-antisym, not-≤}
 use Rattle.plane.specs.Points.{Point, signedArea}
 use Rattle.plane.specs.Members.{All, _∈_}
 use Rattle.plane.specs.Polygons.{AllRight, Extreme, Distinct, Polygon}
-use Rattle.plane.proofs.Lists.{first, rest, all-at, all-imp, index-of-all, in-by-index}
+use Rattle.plane.proofs.Twins.{signedAreaᴱ, pt}
+use Rattle.plane.proofs.Lists.{first, all-at, all-imp, index-of-all, in-by-index}
 use Rattle.plane.proofs.PolygonFacts.{Between, between-swap}
 use Rattle.plane.proofs.Outline.{Outline, one-point, in-line, area}
 use Rattle.plane.proofs.Reading.{polygon-outline, not-in-line}
 use Rattle.plane.proofs.Indexed.{index-of-steps, last-of-steps}
-use Rattle.turns.specs.Keys.{Key, pointOf}
-use Rattle.locations.specs.Answers.{Keys}
-use Rattle.locations.specs.Search.{vertexAt, Ends, next, closing, LineFound}
-use Rattle.locations.proofs.Bounds.{turned}
+use Rattle.turns.specs.Keys.{pointOf}
+use Rattle.locations.specs.Search.{vertexAt}
+
+-- the side from a to b, taken the other way
+pub turned : (a b c : Point) → signedArea a b c ≤ℤ pos 0 → pos 0 ≤ℤ signedArea b a c
+turned a b c = cert 3 0 (λ a b c. signedAreaᴱ a b c ≼ # 0 ⟹ # 0 ≼ signedAreaᴱ b a c ∵ hyp 0) tt (pt a) (pt b) (pt c)
 
 -- ---- of any listing
 
@@ -31,7 +36,7 @@ distinct-at d (x ∷ l) n zero (suc j) h k e = n .0 (subst (λ y. y ∈ l) (sym 
 distinct-at d (x ∷ l) n (suc i) (suc j) h k e = distinct-at d l (n .1) i j (omega arith) (omega arith) e
 
 -- two ends, with all points between them: every point is on the line, either way
-line-right : {qs : List Point} (v w : Point) → All (Between v w) qs → AllRight qs v w
+pub line-right : {qs : List Point} (v w : Point) → All (Between v w) qs → AllRight qs v w
 line-right v w h = all-imp (λ q b. ≡→≤ (b .in-line)) h
 
 -- every point lies right of each side or on it
@@ -62,18 +67,6 @@ all-between {qs} {v} {w} P = go (polygon-outline v (first (P .only-extreme) .lis
     go (in-line ne mv mw h) = h
 
 -- ---- of a slice of keys
-
--- a slice of one key, and of two
-pub of-one : (ks : List ℕ) → length ks ≡ 1 → ks ≡ getD ks 0 0 ∷ []
-of-one [] h = absurd (omega arith)
-of-one (a ∷ []) h = refl
-of-one (a ∷ b ∷ ks) h = absurd (omega arith)
-
-pub of-two : (ks : List ℕ) → length ks ≡ 2 → ks ≡ getD ks 0 0 ∷ getD ks 1 0 ∷ []
-of-two [] h = absurd (omega arith)
-of-two (a ∷ []) h = absurd (omega arith)
-of-two (a ∷ b ∷ []) h = refl
-of-two (a ∷ b ∷ c ∷ ks) h = absurd (omega arith)
 
 module _ {qs : List Point} (ks : List ℕ) (P : Polygon qs (map pointOf ks)) where
   at : (i : ℕ) → getD (map pointOf ks) i (pointOf 0) ≡ vertexAt ks i
@@ -127,32 +120,14 @@ module _ {qs : List Point} (ks : List ℕ) (P : Polygon qs (map pointOf ks)) whe
       (λ e. apart 0 (length ks - 1) (omega arith) (omega arith) (sym e)) (apart 0 i (omega arith) (omega arith))
       (λ e. apart i (length ks - 1) (omega arith) (omega arith) (sym e)) (last-side (omega arith))
 
-  -- a side by its ends: apart, and every point right of it or on it
-  module _ {a b : ℕ} (h : 2 ≤ length ks) where
-    pub ends-right : Ends ks a b → AllRight qs (pointOf a) (pointOf b)
-    ends-right (next i l ea eb) = subst₂ (λ x y. AllRight qs (pointOf x) (pointOf y)) (sym ea) (sym eb) (side i l)
-    ends-right (closing ea eb) = subst₂ (λ x y. AllRight qs (pointOf x) (pointOf y)) (sym ea) (sym eb) (last-side h)
+-- a side of the polygon of the keys, whatever the points: its ends are apart, and every point lies right of it or on it
+pub record Side (ks : List ℕ) (v w : Point) : Type 0 where
+  pub ends : (qs : List Point) → Polygon qs (map pointOf ks) → v ≡ w → ⊥
+  pub right : (qs : List Point) → Polygon qs (map pointOf ks) → AllRight qs v w
 
-    pub ends-apart : Ends ks a b → pointOf a ≡ pointOf b → ⊥
-    ends-apart (next i l ea eb) e = apart i (i + 1) (omega arith) l (sym (ap pointOf ea) ∙ e ∙ ap pointOf eb)
-    ends-apart (closing ea eb) e = apart 0 (length ks - 1) (omega arith) (omega arith) (sym (ap pointOf eb) ∙ sym e ∙ ap pointOf ea)
+pub side-next : (ks : List ℕ) (i : ℕ) → i + 1 < length ks → Side ks (vertexAt ks i) (vertexAt ks (i + 1))
+side-next ks i h = record { ends = λ qs P. apart ks P i (i + 1) (omega arith) h; right = λ qs P. side ks P i h }
 
--- the ends of a side are keys
-pub ends-keys : {ks : List ℕ} {k a b : ℕ} → Keys ks k → Ends ks a b → Key a × Key b
-ends-keys {ks} g (next i l ea eb) = (subst Key (sym ea) (index-of-all 0 (g .vertices) i (omega arith)), subst Key (sym eb) (index-of-all 0 (g .vertices) (i + 1) l))
-ends-keys {ks} g (closing ea eb) =
-    let n = g .some in
-    (subst Key (sym ea) (index-of-all 0 (g .vertices) (length ks - 1) (omega arith)), subst Key (sym eb) (index-of-all 0 (g .vertices) 0 (omega arith)))
-
--- two vertices, and the plug is strictly left of neither of the two sides
-pub line-found : (ks : List ℕ) (k : ℕ) → length ks ≡ 2 → signedArea (vertexAt ks 0) (vertexAt ks 1) (pointOf k) ≤ℤ pos 0
-    → signedArea (vertexAt ks (length ks - 1)) (vertexAt ks 0) (pointOf k) ≤ℤ pos 0 → LineFound ks k (getD ks 0 0) (getD ks 1 0)
-line-found ks k e x y =
-    let l : length ks - 1 ≡ 1 = omega arith in
-    record {
-      both = of-two ks e;
-      in-line = ≤-antisym x (turned (vertexAt ks 1) (vertexAt ks 0) (pointOf k) (subst (λ i. signedArea (vertexAt ks i) (vertexAt ks 0) (pointOf k) ≤ℤ pos 0) l y));
-    }
-
-pub line-keys : {ks : List ℕ} {k a b : ℕ} → Keys ks k → LineFound ks k a b → Key a × Key b
-line-keys {ks} {k} {a} {b} g h = let y = subst (All Key) (h .both) (g .vertices) in (first y, first (rest y))
+pub side-closing : (ks : List ℕ) → 2 ≤ length ks → Side ks (vertexAt ks (length ks - 1)) (vertexAt ks 0)
+side-closing ks h =
+    record { ends = λ qs P e. apart ks P 0 (length ks - 1) (omega arith) (omega arith) (sym e); right = λ qs P. last-side ks P h }

@@ -10,15 +10,14 @@ use Rattle.plane.specs.Members.{All}
 use Rattle.plane.specs.Points.{Point}
 use Rattle.plane.specs.Polygons.{Polygon}
 use Rattle.plane.proofs.Lists.{all-by-index, index-of-all}
-use Rattle.turns.specs.Keys.{Key, pointOf}
+use Rattle.turns.specs.Keys.{Key, pointOf, AllKeys}
 use Rattle.sorting.specs.Order.{get}
-use Rattle.hulls.specs.Chains.{Keys}
 use Rattle.hulls.specs.Hulls.{Hull}
 use Rattle.rounds.specs.Boxes.{boxesOf, allCorners}
 use Rattle.rounds.specs.declared.Corner.the-variants.{SouthWest, SouthEast, NorthEast, NorthWest}
-use Rattle.outlines.specs.Corners.{KeysOf}
+use Rattle.outlines.specs.KeyLists.{KeysOf}
 use Rattle.outlines.specs.Outlines.{PolygonKeys}
-use Rattle.corners.proofs.Edges.{corners-length}
+use Rattle.corners.proofs.Places.{corners-length}
 
 -- four corners for each box of a list of fours
 pub all-length : (l : List ℤ) → length l % 4 ≡ 0 → length (allCorners (boxesOf l)) ≡ length l
@@ -30,7 +29,7 @@ module _ (qs : List Point) (ks : List ℕ) (n : ℕ) (e : length qs ≡ n) (h : 
   pub front-length : length (take n ks) ≡ n
   front-length = length-take-le n ks h
 
-  pub front-keys : Keys (get (take n ks)) (length (take n ks))
+  pub front-keys : AllKeys (get (take n ks)) (length (take n ks))
   front-keys = record { key = λ i l. index-of-all 0 (subst (λ m. All Key (take m ks)) e (f .keys)) i l }
 
   pub front-polygon : (vs : List ℕ) (count : ℕ) → n ≤ length vs → Hull (take n ks) vs count → PolygonKeys qs vs count

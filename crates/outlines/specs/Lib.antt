@@ -1,2 +1,3 @@
-pub mod Corners
+pub mod KeyLists
 pub mod Outlines
+pub mod RoundPolygons

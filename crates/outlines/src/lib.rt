@@ -1,18 +1,26 @@
-// The outer polygon and the corner polygons of an accepted box list, as the keys of their vertices.
+// The outer polygon and the corner polygons of a box list, as the keys of their vertices, in lent scratch.
 ghost use mathlib.Core.List.{_++_};
 ghost use mathlib.Core.Path.{_≡_};
-ghost use Prim.Native.Nat.{_+_, _/_, _≤_};
+ghost use Prim.Native.Nat.{_+_, _*_, _/_, _≤_};
 ghost use lib.ListN.{length};
-ghost use Rattle.rounds.specs.Boxes.{boxesOf, cornersOf, allCorners};
-ghost use Rattle.rounds.specs.Refusals.{none, boxListFault};
-ghost use Rattle.outlines.specs.Corners.{KeysOf};
-ghost use Rattle.outlines.specs.Outlines.{Room, PolygonKeys};
+ghost use Rattle.rounds.specs.Boxes.{boxesOf, cornersOf, allCorners, BoxList};
+ghost use Rattle.outlines.specs.KeyLists.{KeysOf};
+ghost use Rattle.outlines.specs.Outlines.{ScratchFor, PolygonKeys, PolygonBehind, TwoBehind};
+ghost use Rattle.outlines.specs.RoundPolygons.{RoundPolygons};
 use rounds::Corner;
+
+// How many vertices each of the five polygons of a round has. Their keys stand one behind another, in this order.
+pub struct RoundCounts {
+    pub outer: usize,
+    pub southwest: usize,
+    pub southeast: usize,
+    pub northeast: usize,
+    pub northwest: usize,
+}
 
 // Writes the keys of that one corner of every box to the front of keys.
 fn put_corner_keys(boxes: &[i32], corner: Corner, keys: &mut [u32])
-    requires { ⌜ boxListFault (now boxes) ≡ none ⌝ }
-    requires { ⌜ length (now boxes) / 4 ≤ length (now keys) ⌝ }
+    requires { ⌜ BoxList (now boxes) × (length (now boxes) / 4 ≤ length (now keys)) ⌝ }
     ensures { λ _. ⌜ KeysOf (cornersOf corner (boxesOf (now (boxes .entry)))) (now (keys .exit)) ⌝ }
 {
     let count = boxes.len() / 4;
@@ -25,9 +33,10 @@ fn put_corner_keys(boxes: &[i32], corner: Corner, keys: &mut [u32])
 
 // Writes the keys of one corner of every box to the front of keys, and those of another behind them.
 fn put_two_corners(boxes: &[i32], first: Corner, second: Corner, keys: &mut [u32])
-    requires { ⌜ boxListFault (now boxes) ≡ none ⌝ }
-    requires { ⌜ length (now boxes) / 4 + length (now boxes) / 4 ≤ length (now keys) ⌝ }
-    ensures { λ _. ⌜ KeysOf (cornersOf first (boxesOf (now (boxes .entry))) ++ cornersOf second (boxesOf (now (boxes .entry)))) (now (keys .exit)) ⌝ }
+    requires { ⌜ BoxList (now boxes) × (length (now boxes) / 4 + length (now boxes) / 4 ≤ length (now keys)) ⌝ }
+    ensures { λ _. ⌜ KeysOf
+        (cornersOf first (boxesOf (now (boxes .entry))) ++ cornersOf second (boxesOf (now (boxes .entry))))
+        (now (keys .exit)) ⌝ }
 {
     let n = boxes.len() / 4;
     put_corner_keys(boxes, first, keys);
@@ -36,8 +45,7 @@ fn put_two_corners(boxes: &[i32], first: Corner, second: Corner, keys: &mut [u32
 
 // Writes the keys of all four corners of all boxes to the front of keys.
 fn put_all_corners(boxes: &[i32], keys: &mut [u32])
-    requires { ⌜ boxListFault (now boxes) ≡ none ⌝ }
-    requires { ⌜ length (now boxes) ≤ length (now keys) ⌝ }
+    requires { ⌜ BoxList (now boxes) × (length (now boxes) ≤ length (now keys)) ⌝ }
     ensures { λ _. ⌜ KeysOf (allCorners (boxesOf (now (boxes .entry)))) (now (keys .exit)) ⌝ }
 {
     let half = boxes.len() / 4 + boxes.len() / 4;
@@ -50,85 +58,126 @@ fn put_all_corners(boxes: &[i32], keys: &mut [u32])
     );
 }
 
-// The polygon of that one corner of every box, in lent scratch. What the scratch holds is lost.
-fn corner_polygon_in(
+// The corner polygon of that one corner of every box: the first of vertices, as many as are returned.
+// What the scratch holds is lost.
+pub fn corner_outline(
     boxes: &[i32],
     corner: Corner,
     vertices: &mut [u32],
     keys: &mut [u32],
     mirror: &mut [u32],
-    lower: &mut [u32],
 ) -> usize
-    requires { ⌜ boxListFault (now boxes) ≡ none ⌝ }
-    requires { ⌜ Room (length (now boxes) / 4) (now vertices) (now keys) (now mirror) (now lower) ⌝ }
+    requires { ⌜ BoxList (now boxes) × (length (now boxes) / 4 ≤ length (now vertices)) ⌝ }
+    requires { ⌜ ScratchFor (length (now boxes) / 4) (now keys) (now mirror) ⌝ }
     ensures { λ r. ⌜ PolygonKeys (cornersOf corner (boxesOf (now (boxes .entry)))) (now (vertices .exit)) r ⌝ }
 {
     let n = boxes.len() / 4;
     put_corner_keys(boxes, corner, keys);
-    hulls::hull(&mut keys[..n], vertices, mirror, lower)
+    hulls::hull(&mut keys[..n], vertices, mirror)
 }
 
-// The polygon of all four corners of all boxes, in lent scratch. What the scratch holds is lost.
-fn outer_polygon_in(
+// The outer polygon: the first of vertices, as many as are returned. What the scratch holds is lost.
+pub fn outer_outline(
     boxes: &[i32],
     vertices: &mut [u32],
     keys: &mut [u32],
     mirror: &mut [u32],
-    lower: &mut [u32],
 ) -> usize
-    requires { ⌜ boxListFault (now boxes) ≡ none ⌝ }
-    requires { ⌜ Room (length (now boxes)) (now vertices) (now keys) (now mirror) (now lower) ⌝ }
+    requires { ⌜ BoxList (now boxes) × (length (now boxes) ≤ length (now vertices)) ⌝ }
+    requires { ⌜ ScratchFor (length (now boxes)) (now keys) (now mirror) ⌝ }
     ensures { λ r. ⌜ PolygonKeys (allCorners (boxesOf (now (boxes .entry)))) (now (vertices .exit)) r ⌝ }
 {
     let n = boxes.len();
     put_all_corners(boxes, keys);
-    hulls::hull(&mut keys[..n], vertices, mirror, lower)
+    hulls::hull(&mut keys[..n], vertices, mirror)
 }
 
-// The corner polygon of that one corner of every box: the first of vertices, as many as are returned. Few boxes take little scratch.
-pub fn corner_polygon(boxes: &[i32], corner: Corner, vertices: &mut [u32]) -> usize
-    requires { ⌜ boxListFault (now boxes) ≡ none ⌝ }
-    requires { ⌜ length (now boxes) / 4 ≤ length (now vertices) ⌝ }
-    ensures { λ r. ⌜ PolygonKeys (cornersOf corner (boxesOf (now (boxes .entry)))) (now (vertices .exit)) r ⌝ }
+// The corner polygon of that one corner of every box, in the part of vertices that the first `from` leave free.
+fn append_outline(
+    boxes: &[i32],
+    corner: Corner,
+    from: usize,
+    vertices: &mut [u32],
+    keys: &mut [u32],
+    mirror: &mut [u32],
+) -> usize
+    requires { ⌜ BoxList (now boxes) × (from + length (now boxes) / 4 ≤ length (now vertices)) ⌝ }
+    requires { ⌜ ScratchFor (length (now boxes) / 4) (now keys) (now mirror) ⌝ }
+    ensures { λ r. ⌜ PolygonBehind (cornersOf corner (boxesOf (now (boxes .entry)))) from (now (vertices .entry)) r
+        (now (vertices .exit)) ⌝ }
 {
-    if boxes.len() <= 128 {
-        let mut keys = [0u32; 32];
-        let mut mirror = [0u32; 32];
-        let mut lower = [0u32; 32];
-        return corner_polygon_in(boxes, corner, vertices, &mut keys, &mut mirror, &mut lower);
-    }
-    if boxes.len() <= 1024 {
-        let mut keys = [0u32; 256];
-        let mut mirror = [0u32; 256];
-        let mut lower = [0u32; 256];
-        return corner_polygon_in(boxes, corner, vertices, &mut keys, &mut mirror, &mut lower);
-    }
-    let mut keys = [0u32; 1024];
-    let mut mirror = [0u32; 1024];
-    let mut lower = [0u32; 1024];
-    corner_polygon_in(boxes, corner, vertices, &mut keys, &mut mirror, &mut lower)
+    corner_outline(boxes, corner, &mut vertices[from..], keys, mirror)
 }
 
-// The outer polygon: the first of vertices, as many as are returned. Few boxes take little scratch.
-pub fn outer_polygon(boxes: &[i32], vertices: &mut [u32]) -> usize
-    requires { ⌜ boxListFault (now boxes) ≡ none ⌝ }
-    requires { ⌜ length (now boxes) ≤ length (now vertices) ⌝ }
-    ensures { λ r. ⌜ PolygonKeys (allCorners (boxesOf (now (boxes .entry)))) (now (vertices .exit)) r ⌝ }
+// How many vertices each of two polygons has.
+pub struct TwoCounts {
+    pub first: usize,
+    pub second: usize,
+}
+
+// The corner polygons of two corners of every box, one behind the other, in the part of vertices that the first `from`
+// leave free.
+fn append_two_outlines(
+    boxes: &[i32],
+    first: Corner,
+    second: Corner,
+    from: usize,
+    vertices: &mut [u32],
+    keys: &mut [u32],
+    mirror: &mut [u32],
+) -> TwoCounts
+    requires { ⌜ BoxList (now boxes) × (from + 2 * (length (now boxes) / 4) ≤ length (now vertices)) ⌝ }
+    requires { ⌜ ScratchFor (length (now boxes) / 4) (now keys) (now mirror) ⌝ }
+    ensures { λ r. ⌜ TwoBehind
+        (cornersOf first (boxesOf (now (boxes .entry)))) (cornersOf second (boxesOf (now (boxes .entry))))
+        from (now (vertices .entry)) (r .first) (r .second) (now (vertices .exit)) ⌝ }
 {
-    if boxes.len() <= 128 {
-        let mut keys = [0u32; 128];
-        let mut mirror = [0u32; 128];
-        let mut lower = [0u32; 128];
-        return outer_polygon_in(boxes, vertices, &mut keys, &mut mirror, &mut lower);
+    let one = append_outline(boxes, first, from, vertices, keys, mirror);
+    let next = from + one;
+    let other = append_outline(boxes, second, next, vertices, keys, mirror);
+    TwoCounts {
+        first: one,
+        second: other,
     }
-    if boxes.len() <= 1024 {
-        let mut keys = [0u32; 1024];
-        let mut mirror = [0u32; 1024];
-        let mut lower = [0u32; 1024];
-        return outer_polygon_in(boxes, vertices, &mut keys, &mut mirror, &mut lower);
+}
+
+// The outer polygon and the corner polygons SW, SE, NE, NW, one behind another at the front of vertices, each in the
+// part that the earlier ones left free. What the scratch holds is lost.
+pub fn round_outlines(
+    boxes: &[i32],
+    vertices: &mut [u32],
+    keys: &mut [u32],
+    mirror: &mut [u32],
+) -> RoundCounts
+    requires { ⌜ BoxList (now boxes) × (8 * (length (now boxes) / 4) ≤ length (now vertices)) ⌝ }
+    requires { ⌜ ScratchFor (length (now boxes)) (now keys) (now mirror) ⌝ }
+    ensures { λ r. ⌜ RoundPolygons (boxesOf (now (boxes .entry))) (now (vertices .exit)) r ⌝ }
+{
+    let outer = outer_outline(boxes, vertices, keys, mirror);
+    let south = append_two_outlines(
+        boxes,
+        Corner::SouthWest,
+        Corner::SouthEast,
+        outer,
+        vertices,
+        keys,
+        mirror,
+    );
+    let next = outer + south.first + south.second;
+    let north = append_two_outlines(
+        boxes,
+        Corner::NorthEast,
+        Corner::NorthWest,
+        next,
+        vertices,
+        keys,
+        mirror,
+    );
+    RoundCounts {
+        outer,
+        southwest: south.first,
+        southeast: south.second,
+        northeast: north.first,
+        northwest: north.second,
     }
-    let mut keys = [0u32; 4096];
-    let mut mirror = [0u32; 4096];
-    let mut lower = [0u32; 4096];
-    outer_polygon_in(boxes, vertices, &mut keys, &mut mirror, &mut lower)
 }

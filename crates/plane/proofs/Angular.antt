@@ -4,7 +4,7 @@
 use mathlib.Core.Path.{_≡_, sym}
 use lib.IntN.{pos}
 use lib.Signed.{_≤ℤ_, _<ℤ_}
-use Rattle.integers.proofs.Expr.{⊝_, #_, _≐_, _≼_, _≺_, _⟹_, bot}
+use Rattle.integers.proofs.Expr.{#_, _≐_, _≼_, _≺_, _⟹_, bot}
 use Rattle.integers.proofs.Cert.{cert, hyp, _⊞_, _⊠_, eqn, _∵_, _∵_÷_}
 use Rattle.integers.proofs.Order.{<→≤, ≡→≤}
 use Rattle.plane.specs.Points.{Point}
@@ -41,17 +41,3 @@ right-trans-l u v w hu (ahead hv) (ahead hw) h k =
 right-trans-l u v w hu (ahead hv) (above e hw) h k = absurd (steep v w hv e hw k)
 right-trans-l u v w hu (above e hv) hw h k =
     absurd (cert 2 0 (λ u v. # 0 ≼ u .0 ⟹ v .0 ≐ # 0 ⟹ # 0 ≺ v .1 ⟹ detᴱ u v ≺ # 0 ⟹ bot ∵ hyp 0 ⊠ hyp 2 ⊞ hyp 3 ⊞ eqn 1 (u .1)) tt (pt u) (pt v) (up-nn hu) e hv h)
-
--- strict, where the second turn is
-pub right-trans-r : (u v w : Point) → Up u → Up v → Up w → det u v ≤ℤ pos 0 → det v w <ℤ pos 0 → det u w <ℤ pos 0
-right-trans-r u v w (ahead hu) (ahead hv) hw h k =
-    cert 3 0 (λ u v w. # 0 ≺ u .0 ⟹ # 0 ≺ v .0 ⟹ # 0 ≼ w .0 ⟹ detᴱ u v ≼ # 0 ⟹ detᴱ v w ≺ # 0 ⟹ detᴱ u w ≺ # 0 ∵ hyp 3 ⊠ hyp 2 ⊞ hyp 4 ⊠ hyp 0 ÷ hyp 1) tt
-    (pt u) (pt v) (pt w) hu hv (up-nn hw) h k
-right-trans-r u v w (above d hu) (ahead hv) hw h k =
-    right-trans-l u v w (above d hu) (ahead hv) hw
-    (cert 2 0 (λ u v. u .0 ≐ # 0 ⟹ # 0 ≺ u .1 ⟹ # 0 ≺ v .0 ⟹ detᴱ u v ≺ # 0 ∵ eqn 0 (v .1) ⊞ hyp 1 ⊠ hyp 2) tt (pt u) (pt v) d hu hv)
-    (<→≤ k)
-right-trans-r u v w (ahead hu) (above e hv) hw h k = absurd (steep u v hu e hv h)
-right-trans-r u v w (above d hu) (above e hv) hw h k =
-    cert 2 0 (λ u w. u .0 ≐ # 0 ⟹ # 0 ≺ u .1 ⟹ # 0 ≺ w .0 ⟹ detᴱ u w ≺ # 0 ∵ eqn 0 (w .1) ⊞ hyp 1 ⊠ hyp 2) tt (pt u) (pt w) d hu
-    (cert 2 0 (λ v w. v .0 ≐ # 0 ⟹ # 0 ≺ v .1 ⟹ detᴱ v w ≺ # 0 ⟹ # 0 ≺ w .0 ∵ hyp 2 ⊞ eqn 0 (⊝ (w .1)) ÷ hyp 1) tt (pt v) (pt w) e hv k)

@@ -10,13 +10,13 @@ use Rattle.integers.proofs.Expr.{_⊖_, ⊝_, #_, _≼_, _≺_, _≐_, _⟹_, b
 use Rattle.integers.proofs.Lin.{lin}
 use Rattle.integers.proofs.Cert.{cert, hyp, eqn, _⊞_, _⊠_, _∵_}
 use Rattle.integers.proofs.Order.{lt-or-ge, ≤-antisym}
-use Rattle.plane.specs.Points.{Point, signedArea}
+use Rattle.plane.specs.Points.{Point, signedArea, outwardEast, outwardNorth}
 use Rattle.plane.specs.Members.{All, _∈_}
 use Rattle.plane.specs.Vectors.{along}
 use Rattle.plane.specs.Polygons.{AllRight, Steps, Polygon}
 use Rattle.plane.proofs.Lists.{all-at, all-of, all-imp}
 use Rattle.plane.proofs.Twins.{pt, alongᴱ, signedAreaᴱ}
-use Rattle.plane.proofs.Sides.{out-east, out-north, side-nonzero}
+use Rattle.plane.proofs.Sides.{side-nonzero}
 use Rattle.plane.proofs.PolygonFacts.{same-point, Between}
 use Rattle.plane.proofs.Outline.{Outline, one-point, in-line, area, outline-polygon}
 use Rattle.plane.proofs.Reading.{polygon-outline}
@@ -60,8 +60,8 @@ not-one {q = q} {v} h k =
 
 not-line : {kept : List Point} {q v w : Point} → Inner kept q → (v ≡ w → ⊥) → All (Between v w) kept → ⊥
 not-line {q = q} {v} {w} h ne k =
-    let r = farther h (out-east v w) (out-north v w) (side-nonzero v w ne) in
-    let s = farther h (out-east w v) (out-north w v) (side-nonzero w v (λ e. ne (sym e))) in
+    let r = farther h (outwardEast v w) (outwardNorth v w) (side-nonzero v w ne) in
+    let s = farther h (outwardEast w v) (outwardNorth w v) (side-nonzero w v (λ e. ne (sym e))) in
     cert 5 0 (λ q v w p s.
     alongᴱ (⊝ (w .1 ⊖ v .1)) (w .0 ⊖ v .0) q ≺ alongᴱ (⊝ (w .1 ⊖ v .1)) (w .0 ⊖ v .0) p
     ⟹ alongᴱ (⊝ (v .1 ⊖ w .1)) (v .0 ⊖ w .0) q ≺ alongᴱ (⊝ (v .1 ⊖ w .1)) (v .0 ⊖ w .0) s
@@ -77,7 +77,7 @@ inner-right {q = q} v w h k = go (same-point v w)
         cert 3 0 (λ v w q. v .0 ≐ w .0 ⟹ v .1 ≐ w .1 ⟹ signedAreaᴱ v w q ≼ # 0 ∵ eqn 0 (⊝ (q .1 ⊖ v .1)) ⊞ eqn 1 (q .0 ⊖ v .0)) tt (pt v) (pt w) (pt q)
         (ap (λ (p : Point). p .east) e) (ap (λ (p : Point). p .north) e)
     go (no e) =
-        let r = farther h (out-east v w) (out-north v w) (side-nonzero v w e) in
+        let r = farther h (outwardEast v w) (outwardNorth v w) (side-nonzero v w e) in
         cert 4 0 (λ q v w p.
         alongᴱ (⊝ (w .1 ⊖ v .1)) (w .0 ⊖ v .0) q ≺ alongᴱ (⊝ (w .1 ⊖ v .1)) (w .0 ⊖ v .0) p ⟹ signedAreaᴱ v w p ≼ # 0 ⟹ signedAreaᴱ v w q ≼ # 0
         ∵ hyp 0 ⊞ hyp 1) tt (pt q) (pt v) (pt w) (pt (r .0)) (r .2) (all-at k (r .1))

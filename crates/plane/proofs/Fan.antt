@@ -1,4 +1,4 @@
--- The fan (T3). Where the plug lies right of every side of a cyclic listing, or on it, and the first three vertices turn right, it lies in one of the triangles
+-- The fan. Where the plug lies right of every side of a cyclic listing, or on it, and the first three vertices turn right, it lies in one of the triangles
 -- of the fan from the first vertex: in the first whose far edge has the plug on its left or on it. Assumes nothing.
 use Prim.Native.Nat.{ℕ, suc, _<_}
 use mathlib.Core.Bool.{cond, Bool, true, false, not}

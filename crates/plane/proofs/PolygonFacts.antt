@@ -11,14 +11,14 @@ use Rattle.integers.proofs.Expr.{_⊕_, _⊖_, _⊗_, ⊝_, #_, _≼_, _≺_, _
 use Rattle.integers.proofs.Lin.{lin}
 use Rattle.integers.proofs.Cert.{cert, hyp, eqn, _⊞_, _∵_, _∵_÷_}
 use Rattle.integers.proofs.Order.{≤-antisym, not-≤}
-use Rattle.plane.specs.Points.{Point, signedArea}
+use Rattle.plane.specs.Points.{Point, signedArea, outwardEast, outwardNorth, dotProduct}
 use Rattle.plane.specs.Members.{All, none, _&_, _∈_, here, there}
 use Rattle.plane.specs.Vectors.{from, along, Balanced}
 use Rattle.plane.specs.Polygons.{AllRight, Other, Extreme, Distinct, Steps, Clockwise, Polygon}
 use Rattle.plane.proofs.Twins.{signedAreaᴱ, pt, fromᴱ, alongᴱ}
 use Rattle.plane.proofs.Lists.{first, rest, all-at, all-of, all-imp, all-map}
 use Rattle.plane.proofs.Combos.{separated-not-balanced, balanced₂}
-use Rattle.plane.proofs.Sides.{out-east, out-north, point-ext, ahead, aheadᴱ}
+use Rattle.plane.proofs.Sides.{point-ext, dotProductᴱ}
 use Rattle.plane.proofs.Winding.{length-pos}
 use Rattle.plane.proofs.Fan.{fan-balanced}
 
@@ -54,13 +54,13 @@ on-both u v w q t h k =
 
 -- the outward direction of u → w at v
 pub behind-at : (u v w q : Point) → signedArea u v w <ℤ pos 0 → signedArea u v q ≤ℤ pos 0 → signedArea v w q ≤ℤ pos 0 → (q ≡ v → ⊥)
-    → along (out-east u w) (out-north u w) (from 1 v q) <ℤ pos 0
+    → along (outwardEast u w) (outwardNorth u w) (from 1 v q) <ℤ pos 0
 behind-at u v w q t h k ne = not-≤ (λ z. ne (on-both u v w q t (≤-antisym h (from-h z)) (≤-antisym k (from-k z))))
   where
-    from-h : pos 0 ≤ℤ along (out-east u w) (out-north u w) (from 1 v q) → pos 0 ≤ℤ signedArea u v q
+    from-h : pos 0 ≤ℤ along (outwardEast u w) (outwardNorth u w) (from 1 v q) → pos 0 ≤ℤ signedArea u v q
     from-h z = cert 4 0 (λ u v w q. signedAreaᴱ v w q ≼ # 0 ⟹ # 0 ≼ alongᴱ (⊝ (w .1 ⊖ u .1)) (w .0 ⊖ u .0) (fromᴱ v q) ⟹ # 0 ≼ signedAreaᴱ u v q ∵ hyp 0 ⊞ hyp 1) tt (pt u) (pt v) (pt w) (pt q) k z
 
-    from-k : pos 0 ≤ℤ along (out-east u w) (out-north u w) (from 1 v q) → pos 0 ≤ℤ signedArea v w q
+    from-k : pos 0 ≤ℤ along (outwardEast u w) (outwardNorth u w) (from 1 v q) → pos 0 ≤ℤ signedArea v w q
     from-k z = cert 4 0 (λ u v w q. signedAreaᴱ u v q ≼ # 0 ⟹ # 0 ≼ alongᴱ (⊝ (w .1 ⊖ u .1)) (w .0 ⊖ u .0) (fromᴱ v q) ⟹ # 0 ≼ signedAreaᴱ v w q ∵ hyp 0 ⊞ hyp 1) tt (pt u) (pt v) (pt w) (pt q) h z
 
 -- a direction that has every other point strictly behind it, as seen from v, shows that v is extreme
@@ -72,7 +72,7 @@ extreme-by v a b m f =
     }
 
 extreme-at : {qs : List Point} (u v w : Point) → signedArea u v w <ℤ pos 0 → AllRight qs u v → AllRight qs v w → v ∈ qs → Extreme qs v
-extreme-at u v w t h k m = extreme-by v (out-east u w) (out-north u w) m (λ q mq ne. behind-at u v w q t (all-at h mq) (all-at k mq) ne)
+extreme-at u v w t h k m = extreme-by v (outwardEast u w) (outwardNorth u w) m (λ q mq ne. behind-at u v w q t (all-at h mq) (all-at k mq) ne)
 
 -- ---- the turns
 
@@ -104,10 +104,6 @@ steps-imp : (R S : Point → Point → Type 0) (f : Point) (vs : List Point) →
 steps-imp R S f [] k s = tt
 steps-imp R S f (a ∷ []) k s = k a f s
 steps-imp R S f (a ∷ b ∷ vs) k s = (k a b (s .0), steps-imp R S f (b ∷ vs) k (s .1))
-
--- the first three turn right
-first-turn : (f a b : Point) (vs : List Point) → TurnsRight (f ∷ a ∷ b ∷ vs) → signedArea f a b <ℤ pos 0
-first-turn f a b vs t = t .0
 
 pub polygon : {qs : List Point} (f a b : Point) (vs : List Point) → All (λ v. v ∈ qs) (f ∷ a ∷ b ∷ vs) → Distinct (f ∷ a ∷ b ∷ vs)
     → Clockwise qs (f ∷ a ∷ b ∷ vs) → TurnsRight (f ∷ a ∷ b ∷ vs) → Polygon qs (f ∷ a ∷ b ∷ vs)
@@ -141,8 +137,8 @@ polygon₁ v m h =
 -- q is in line with v and w, and neither before v nor past w
 pub record Between (v w q : Point) : Type 0 where
   pub in-line : signedArea v w q ≡ pos 0
-  pub past-v : pos 0 ≤ℤ ahead v w q
-  pub before-w : pos 0 ≤ℤ ahead w v q
+  pub past-v : pos 0 ≤ℤ dotProduct v w q
+  pub before-w : pos 0 ≤ℤ dotProduct w v q
 
 pub between-swap : {v w q : Point} → Between v w q → Between w v q
 between-swap {v} {w} {q} h =
@@ -152,7 +148,7 @@ between-swap {v} {w} {q} h =
       before-w = h .past-v;
     }
 
-pub apart-length : (v w : Point) → (v ≡ w → ⊥) → pos 0 <ℤ ahead v w w
+pub apart-length : (v w : Point) → (v ≡ w → ⊥) → pos 0 <ℤ dotProduct v w w
 apart-length v w ne =
     length-pos (w .east -ℤ v .east) (w .north -ℤ v .north)
     (λ z. ne (point-ext (lin 0 2 (λ a b. b ⊖ a ≐ # 0 ⟹ a ≐ b) (omega arith) _ _ (z .0)) (lin 0 2 (λ a b. b ⊖ a ≐ # 0 ⟹ a ≐ b) (omega arith) _ _ (z .1))))
@@ -163,25 +159,25 @@ end-extreme v w ne m h = extreme-by v (v .east -ℤ w .east) (v .north -ℤ w .n
     is-v : (q : Point) → Between v w q → pos 0 ≤ℤ along (v .east -ℤ w .east) (v .north -ℤ w .north) (from 1 v q) → q ≡ v
     is-v q k z =
         let l = apart-length v w ne in
-        let e : ahead v w q ≡ pos 0
-        = ≤-antisym (cert 3 0 (λ v w q. # 0 ≼ alongᴱ (v .0 ⊖ w .0) (v .1 ⊖ w .1) (fromᴱ v q) ⟹ aheadᴱ v w q ≼ # 0 ∵ hyp 0) tt (pt v) (pt w) (pt q) z) (k .past-v) in
+        let e : dotProduct v w q ≡ pos 0
+        = ≤-antisym (cert 3 0 (λ v w q. # 0 ≼ alongᴱ (v .0 ⊖ w .0) (v .1 ⊖ w .1) (fromᴱ v q) ⟹ dotProductᴱ v w q ≼ # 0 ∵ hyp 0) tt (pt v) (pt w) (pt q) z) (k .past-v) in
         point-ext
-        (cert 3 0 (λ v w q. # 0 ≺ aheadᴱ v w w ⟹ signedAreaᴱ v w q ≐ # 0 ⟹ aheadᴱ v w q ≐ # 0 ⟹ q .0 ≐ v .0
+        (cert 3 0 (λ v w q. # 0 ≺ dotProductᴱ v w w ⟹ signedAreaᴱ v w q ≐ # 0 ⟹ dotProductᴱ v w q ≐ # 0 ⟹ q .0 ≐ v .0
         ∵ eqn 1 (⊝ (w .1 ⊖ v .1)) ⊞ eqn 2 (w .0 ⊖ v .0) ÷ hyp 0) tt (pt v) (pt w) (pt q) l (k .in-line) e)
-        (cert 3 0 (λ v w q. # 0 ≺ aheadᴱ v w w ⟹ signedAreaᴱ v w q ≐ # 0 ⟹ aheadᴱ v w q ≐ # 0 ⟹ q .1 ≐ v .1
+        (cert 3 0 (λ v w q. # 0 ≺ dotProductᴱ v w w ⟹ signedAreaᴱ v w q ≐ # 0 ⟹ dotProductᴱ v w q ≐ # 0 ⟹ q .1 ≐ v .1
         ∵ eqn 1 (w .0 ⊖ v .0) ⊞ eqn 2 (w .1 ⊖ v .1) ÷ hyp 0) tt (pt v) (pt w) (pt q) l (k .in-line) e)
 
 -- a point between two others is in their hull
 pub between-balanced : {v w p : Point} → (v ≡ w → ⊥) → Between v w p → Balanced (map (from 1 p) (v ∷ w ∷ []))
 between-balanced {v} {w} {p} ne k =
     balanced₂ {u = from 1 p v} {v = from 1 p w}
-    (ahead w v p)
-    (ahead v w p)
+    (dotProduct w v p)
+    (dotProduct v w p)
     (k .before-w) (k .past-v)
-    (cert 3 0 (λ v w p. # 0 ≺ aheadᴱ v w w ⟹ # 0 ≺ aheadᴱ w v p ⊕ aheadᴱ v w p ∵ hyp 0) tt (pt v) (pt w) (pt p) (apart-length v w ne))
+    (cert 3 0 (λ v w p. # 0 ≺ dotProductᴱ v w w ⟹ # 0 ≺ dotProductᴱ w v p ⊕ dotProductᴱ v w p ∵ hyp 0) tt (pt v) (pt w) (pt p) (apart-length v w ne))
     (here refl) (there (here refl))
-    (cert 3 0 (λ v w p. signedAreaᴱ v w p ≐ # 0 ⟹ aheadᴱ w v p ⊗ fromᴱ p v .0 ⊕ aheadᴱ v w p ⊗ fromᴱ p w .0 ≐ # 0 ∵ eqn 0 (w .1 ⊖ v .1)) tt (pt v) (pt w) (pt p) (k .in-line))
-    (cert 3 0 (λ v w p. signedAreaᴱ v w p ≐ # 0 ⟹ aheadᴱ w v p ⊗ fromᴱ p v .1 ⊕ aheadᴱ v w p ⊗ fromᴱ p w .1 ≐ # 0 ∵ eqn 0 (⊝ (w .0 ⊖ v .0))) tt (pt v) (pt w) (pt p) (k .in-line))
+    (cert 3 0 (λ v w p. signedAreaᴱ v w p ≐ # 0 ⟹ dotProductᴱ w v p ⊗ fromᴱ p v .0 ⊕ dotProductᴱ v w p ⊗ fromᴱ p w .0 ≐ # 0 ∵ eqn 0 (w .1 ⊖ v .1)) tt (pt v) (pt w) (pt p) (k .in-line))
+    (cert 3 0 (λ v w p. signedAreaᴱ v w p ≐ # 0 ⟹ dotProductᴱ w v p ⊗ fromᴱ p v .1 ⊕ dotProductᴱ v w p ⊗ fromᴱ p w .1 ≐ # 0 ∵ eqn 0 (⊝ (w .0 ⊖ v .0))) tt (pt v) (pt w) (pt p) (k .in-line))
 
 pub polygon₂ : {qs : List Point} (v w : Point) → (v ≡ w → ⊥) → v ∈ qs → w ∈ qs → All (Between v w) qs → Polygon qs (v ∷ w ∷ [])
 polygon₂ {qs} v w ne mv mw h =

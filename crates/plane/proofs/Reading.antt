@@ -11,14 +11,14 @@ use Rattle.integers.proofs.Expr.{_⊕_, _⊖_, _⊗_, ⊝_, #_, _≼_, _≺_, _
 use Rattle.integers.proofs.Lin.{lin}
 use Rattle.integers.proofs.Cert.{cert, hyp, num, eqn, sq, _⊞_, _∵_, _∵_÷_}
 use Rattle.integers.proofs.Order.{lt-or-ge, <→≤, ≡→≤, ≤-antisym, ≤-trans, not-≤, compareℤ, Cmp, is-less, is-same, is-more}
-use Rattle.plane.specs.Points.{Point, signedArea}
+use Rattle.plane.specs.Points.{Point, signedArea, outwardEast, outwardNorth, dotProduct}
 use Rattle.plane.specs.Members.{All, none, _&_, _∈_, here, there}
 use Rattle.plane.specs.Vectors.{from, along, Separated}
 use Rattle.plane.specs.Polygons.{AllRight, Extreme, Distinct, Steps, Clockwise, Polygon}
 use Rattle.plane.proofs.Twins.{signedAreaᴱ, pt, fromᴱ, alongᴱ}
 use Rattle.plane.proofs.Lists.{first, rest, all-at, all-of, all-imp, all-map}
 use Rattle.plane.proofs.Combos.{separated-not-balanced}
-use Rattle.plane.proofs.Sides.{out-east, out-north, side-nonzero, point-ext, ahead, aheadᴱ}
+use Rattle.plane.proofs.Sides.{side-nonzero, point-ext, dotProductᴱ}
 use Rattle.plane.proofs.Winding.{length-pos}
 use Rattle.plane.proofs.Alternative.{Rises, outgrow}
 use Rattle.plane.proofs.PolygonFacts.{Between, between-balanced, Turns, TurnsRight}
@@ -149,25 +149,25 @@ two-vertices {qs} {v} {w} P ne = all-of qs (λ q k. record { in-line = ≤-antis
 
     right : (q : Point) → q ∈ qs → signedArea v w q ≤ℤ pos 0
     right q k = cert 3 0 (λ v w q. alongᴱ (⊝ (w .1 ⊖ v .1)) (w .0 ⊖ v .0) q ≼ alongᴱ (⊝ (w .1 ⊖ v .1)) (w .0 ⊖ v .0) w ⟹ signedAreaᴱ v w q ≼ # 0 ∵ hyp 0) tt (pt v) (pt w) (pt q)
-        (behind-two P (out-east v w) (out-north v w) (side-nonzero v w ne)
+        (behind-two P (outwardEast v w) (outwardNorth v w) (side-nonzero v w ne)
         (cert 2 0 (λ v w. alongᴱ (⊝ (w .1 ⊖ v .1)) (w .0 ⊖ v .0) v ≼ alongᴱ (⊝ (w .1 ⊖ v .1)) (w .0 ⊖ v .0) w ∵ num 0) tt (pt v) (pt w)) q k)
 
     left : (q : Point) → q ∈ qs → pos 0 ≤ℤ signedArea v w q
     left q k = cert 3 0 (λ v w q. alongᴱ (⊝ (v .1 ⊖ w .1)) (v .0 ⊖ w .0) q ≼ alongᴱ (⊝ (v .1 ⊖ w .1)) (v .0 ⊖ w .0) w ⟹ # 0 ≼ signedAreaᴱ v w q ∵ hyp 0) tt (pt v) (pt w) (pt q)
-        (behind-two P (out-east w v) (out-north w v) (side-nonzero w v ne′)
+        (behind-two P (outwardEast w v) (outwardNorth w v) (side-nonzero w v ne′)
         (cert 2 0 (λ v w. alongᴱ (⊝ (v .1 ⊖ w .1)) (v .0 ⊖ w .0) v ≼ alongᴱ (⊝ (v .1 ⊖ w .1)) (v .0 ⊖ w .0) w ∵ num 0) tt (pt v) (pt w)) q k)
 
     -- along w − v, and back
     apart-zero : {v w : Point} → (v ≡ w → ⊥) → (w .east -ℤ v .east ≡ pos 0) × (w .north -ℤ v .north ≡ pos 0) → ⊥
     apart-zero n z = n (point-ext (lin 0 2 (λ a b. b ⊖ a ≐ # 0 ⟹ a ≐ b) (omega arith) _ _ (z .0)) (lin 0 2 (λ a b. b ⊖ a ≐ # 0 ⟹ a ≐ b) (omega arith) _ _ (z .1)))
 
-    before : (q : Point) → q ∈ qs → pos 0 ≤ℤ ahead w v q
-    before q k = cert 3 0 (λ v w q. alongᴱ (w .0 ⊖ v .0) (w .1 ⊖ v .1) q ≼ alongᴱ (w .0 ⊖ v .0) (w .1 ⊖ v .1) w ⟹ # 0 ≼ aheadᴱ w v q ∵ hyp 0) tt (pt v) (pt w) (pt q)
+    before : (q : Point) → q ∈ qs → pos 0 ≤ℤ dotProduct w v q
+    before q k = cert 3 0 (λ v w q. alongᴱ (w .0 ⊖ v .0) (w .1 ⊖ v .1) q ≼ alongᴱ (w .0 ⊖ v .0) (w .1 ⊖ v .1) w ⟹ # 0 ≼ dotProductᴱ w v q ∵ hyp 0) tt (pt v) (pt w) (pt q)
         (behind-two P (w .east -ℤ v .east) (w .north -ℤ v .north) (apart-zero ne)
         (cert 2 0 (λ v w. alongᴱ (w .0 ⊖ v .0) (w .1 ⊖ v .1) v ≼ alongᴱ (w .0 ⊖ v .0) (w .1 ⊖ v .1) w ∵ sq (w .0 ⊖ v .0) ⊞ sq (w .1 ⊖ v .1)) tt (pt v) (pt w)) q k)
 
-    past : (q : Point) → q ∈ qs → pos 0 ≤ℤ ahead v w q
-    past q k = cert 3 0 (λ v w q. alongᴱ (v .0 ⊖ w .0) (v .1 ⊖ w .1) q ≼ alongᴱ (v .0 ⊖ w .0) (v .1 ⊖ w .1) v ⟹ # 0 ≼ aheadᴱ v w q ∵ hyp 0) tt (pt v) (pt w) (pt q)
+    past : (q : Point) → q ∈ qs → pos 0 ≤ℤ dotProduct v w q
+    past q k = cert 3 0 (λ v w q. alongᴱ (v .0 ⊖ w .0) (v .1 ⊖ w .1) q ≼ alongᴱ (v .0 ⊖ w .0) (v .1 ⊖ w .1) v ⟹ # 0 ≼ dotProductᴱ v w q ∵ hyp 0) tt (pt v) (pt w) (pt q)
         (behind-swapped P (v .east -ℤ w .east) (v .north -ℤ w .north) (apart-zero ne′)
         (cert 2 0 (λ v w. alongᴱ (v .0 ⊖ w .0) (v .1 ⊖ w .1) w ≼ alongᴱ (v .0 ⊖ w .0) (v .1 ⊖ w .1) v ∵ sq (w .0 ⊖ v .0) ⊞ sq (w .1 ⊖ v .1)) tt (pt v) (pt w)) q k)
 
@@ -179,24 +179,24 @@ not-between {p = p} {v = v} {w = w} x mv mw ne nv nw k = x .apart (v ∷ w ∷ [
 
 pub not-in-line : {qs : List Point} (a b c : Point) → Extreme qs a → Extreme qs b → Extreme qs c → (a ≡ b → ⊥) → (b ≡ c → ⊥) → (a ≡ c → ⊥) → signedArea a b c ≡ pos 0 → ⊥
 not-in-line a b c xa xb xc nab nbc nac e =
-    go (lt-or-ge (ahead a b c) (pos 0))
-    (lt-or-ge (ahead b a c) (pos 0))
+    go (lt-or-ge (dotProduct a b c) (pos 0))
+    (lt-or-ge (dotProduct b a c) (pos 0))
   where
-    go : (ahead a b c <ℤ pos 0)
-        ⊎ (pos 0 ≤ℤ ahead a b c)
-        → (ahead b a c <ℤ pos 0)
-        ⊎ (pos 0 ≤ℤ ahead b a c) → ⊥
+    go : (dotProduct a b c <ℤ pos 0)
+        ⊎ (pos 0 ≤ℤ dotProduct a b c)
+        → (dotProduct b a c <ℤ pos 0)
+        ⊎ (pos 0 ≤ℤ dotProduct b a c) → ⊥
     -- a is between b and c
     go (inl h) k = not-between xa (xb .listed) (xc .listed) nbc (λ z. nab (sym z)) (λ z. nac (sym z)) (record {
       in-line = cert 3 0 (λ a b c. signedAreaᴱ a b c ≐ # 0 ⟹ signedAreaᴱ b c a ≐ # 0 ∵ eqn 0 (# 1)) tt (pt a) (pt b) (pt c) e;
-      past-v = cert 3 0 (λ a b c. aheadᴱ a b c ≺ # 0 ⟹ # 0 ≼ aheadᴱ b c a ∵ hyp 0 ⊞ sq (b .0 ⊖ a .0) ⊞ sq (b .1 ⊖ a .1)) tt (pt a) (pt b) (pt c) h;
-      before-w = cert 3 0 (λ a b c. aheadᴱ a b c ≺ # 0 ⟹ # 0 ≼ aheadᴱ c b a ∵ hyp 0 ⊞ sq (c .0 ⊖ a .0) ⊞ sq (c .1 ⊖ a .1)) tt (pt a) (pt b) (pt c) h;
+      past-v = cert 3 0 (λ a b c. dotProductᴱ a b c ≺ # 0 ⟹ # 0 ≼ dotProductᴱ b c a ∵ hyp 0 ⊞ sq (b .0 ⊖ a .0) ⊞ sq (b .1 ⊖ a .1)) tt (pt a) (pt b) (pt c) h;
+      before-w = cert 3 0 (λ a b c. dotProductᴱ a b c ≺ # 0 ⟹ # 0 ≼ dotProductᴱ c b a ∵ hyp 0 ⊞ sq (c .0 ⊖ a .0) ⊞ sq (c .1 ⊖ a .1)) tt (pt a) (pt b) (pt c) h;
     })
     -- b is between a and c
     go (inr h) (inl k) = not-between xb (xa .listed) (xc .listed) nac nab (λ z. nbc (sym z)) (record {
       in-line = cert 3 0 (λ a b c. signedAreaᴱ a b c ≐ # 0 ⟹ signedAreaᴱ a c b ≐ # 0 ∵ eqn 0 (⊝ # 1)) tt (pt a) (pt b) (pt c) e;
-      past-v = cert 3 0 (λ a b c. # 0 ≼ aheadᴱ a b c ⟹ # 0 ≼ aheadᴱ a c b ∵ hyp 0) tt (pt a) (pt b) (pt c) h;
-      before-w = cert 3 0 (λ a b c. aheadᴱ b a c ≺ # 0 ⟹ # 0 ≼ aheadᴱ c a b ∵ hyp 0 ⊞ sq (c .0 ⊖ b .0) ⊞ sq (c .1 ⊖ b .1)) tt (pt a) (pt b) (pt c) k;
+      past-v = cert 3 0 (λ a b c. # 0 ≼ dotProductᴱ a b c ⟹ # 0 ≼ dotProductᴱ a c b ∵ hyp 0) tt (pt a) (pt b) (pt c) h;
+      before-w = cert 3 0 (λ a b c. dotProductᴱ b a c ≺ # 0 ⟹ # 0 ≼ dotProductᴱ c a b ∵ hyp 0 ⊞ sq (c .0 ⊖ b .0) ⊞ sq (c .1 ⊖ b .1)) tt (pt a) (pt b) (pt c) k;
     })
     -- c is between a and b
     go (inr h) (inr k) = not-between xc (xa .listed) (xb .listed) nab nac nbc (record { in-line = e; past-v = h; before-w = k })

@@ -1,4 +1,4 @@
--- Winding (T2). A cyclic listing with the plug strictly right of every side winds around the plug: its vertices have the plug strictly inside their hull.
+-- Winding. A cyclic listing with the plug strictly right of every side winds around the plug: its vertices have the plug strictly inside their hull.
 -- Were they all behind a direction u, then each would lie clockwise of the first, and so the first of itself. Assumes nothing.
 use mathlib.Core.Path.{_≡_, refl}
 use mathlib.Core.Logic.{_⊎_, inl, inr}

@@ -10,24 +10,23 @@ use Rattle.rounds.specs.Refusals.{none, _orElse_, boxListFault, plugFault, verd
 use Rattle.rounds.specs.Replies.{result, replyUnder}
 use Rattle.rounds.specs.Words.{wordOf}
 use Rattle.rounds.specs.declared.Refusal.{Refusal}
-use Rattle.words.specs.Words.{wordFor, WordIn}
-use Rattle.words.specs.declared.Word.{Word}
-use Rattle.verdicts.specs.Verdicts.{wordReply, verdictOn}
-use Rattle.verdicts.specs.declared.PlugWord.{PlugWord}
-use Rattle.verdicts.specs.declared.PlugWord.the-variants.{Refused}
+use Rattle.rounds.specs.declared.Word.{Word}
+use Rattle.outlines.specs.declared.RoundCounts.{RoundCounts}
+use Rattle.words.specs.Words.{WordIn}
+use Rattle.verdicts.specs.Verdicts.{verdictOn}
+use Rattle.verdicts.specs.declared.WordReply.the-variants.{Given, Refused}
 use Rattle.printing.specs.Text.{plugReply}
 use Rattle.printing.specs.Steps.{WordBy}
 
-module _ (outer sw se ne nw : List ℕ) (p : Point) where
+module _ (vertices : List ℕ) (counts : RoundCounts) (p : Point) where
   -- a plug that is turned back
-  pub word-refused : (r : Refusal) → plugFault 1 p ≡ refusalFault r → WordBy outer sw se ne nw p (Refused r)
+  pub word-refused : (r : Refusal) → plugFault 1 p ≡ refusalFault r → WordBy vertices counts p (Refused r)
   word-refused r e = record { says = λ bs os f. sym (ap (λ g. replyUnder g (wordOf bs p)) e) }
 
   -- an accepted plug, by the word of its key
-  pub word-told : {k : ℕ} {r : Word} {w : PlugWord} → plugFault 1 p ≡ none → pointOf k ≡ p → WordIn outer sw se ne nw k r
-      → result (wordFor r) ≡ wordReply w → WordBy outer sw se ne nw p w
-  word-told {k} {r} e i h s =
-      record { says = λ bs os f. sym s ∙ ap result (h .says bs os f ∙ ap (wordOf bs) i) ∙ sym (ap (λ g. replyUnder g (wordOf bs p)) e) }
+  pub word-given : {k : ℕ} {w : Word} → plugFault 1 p ≡ none → pointOf k ≡ p → WordIn vertices counts k w → WordBy vertices counts p (Given w)
+  word-given {k} {w} e i h =
+      record { says = λ bs os f. ap result (h .says bs os f ∙ ap (wordOf bs) i) ∙ sym (ap (λ g. replyUnder g (wordOf bs p)) e) }
 
 -- accepted boxes: the reply on a plug is the verdict's
 pub as-verdict : (boxes : List ℤ) (p : Point) → boxListFault boxes ≡ none → plugReply (boxesOf boxes) p ≡ verdictOn boxes p

@@ -4,16 +4,18 @@ use mathlib.Core.List.{List, [], _∷_, flatMap}
 use Prim.Native.Nat.{ℕ}
 use lib.IntN.{pos}
 use Rattle.plane.specs.Points.{point}
-use Rattle.rounds.specs.Boxes.{Box, box}
-use Rattle.rounds.specs.Reasons.{Entry}
-use Rattle.rounds.specs.Refusals.{none, inputFault, boxListFault, eachBoxFault, boxFault, farFault, reversedFault, beyond, plugFault}
-use Rattle.rounds.specs.Words.{outside, undecided, wordOf}
+use Rattle.rounds.specs.Boxes.{box}
+use Rattle.rounds.specs.declared.Box.{Box}
+use Rattle.rounds.specs.declared.Entry.{Entry}
+use Rattle.rounds.specs.Refusals.{none, inputFault, boxListFault, eachBoxFault, boxFault, edgeBeyond, edgesReversed, beyond, plugFault}
+use Rattle.rounds.specs.Words.{wordOf}
+use Rattle.rounds.specs.declared.Word.the-variants.{Outside, Undecided}
 use Rattle.rounds.specs.declared.Corner.{Corner}
 use Rattle.rounds.specs.declared.Corner.the-variants.{SouthWest, NorthEast}
 use Rattle.rounds.proofs.Checks.{ordered-yes, outside-yes, undecided-yes}
 use Rattle.rounds.proofs.Total.{exactly}
-use Rattle.files.specs.Format.{markAt, numberAt, boxAt, plugAt, kindOf, nextAt}
-use Rattle.files.specs.Content.{kindFault, formFault, readFrom, contentOf}
+use Rattle.formats.specs.Format.{markAt, numberAt, fileBoxAt, filePlugAt, kindOf, nextAt}
+use Rattle.formats.specs.Content.{kindFault, formFault, readFrom, contentOf}
 use Rattle.printing.specs.Decimals.{digitsOf, decimal}
 use Rattle.printing.specs.Text.{ascii, countLine, plugLine, plugLines, wholeFault, textOf}
 
@@ -29,25 +31,25 @@ one : List Box
 one = box (pos 0) (pos 0) (pos 4) (pos 4) ∷ []
 
 entry : Corner → ℕ → Entry
-entry c w = record { box = 1; corner = c; weight = w }
+entry c w = record { number = 1; corner = c; weight = w }
 
 -- the words of its two plugs
-first : wordOf one (point (pos 2) (pos 2)) ≡ undecided
+first : wordOf one (point (pos 2) (pos 2)) ≡ Undecided
 unfolding one entry
 first =
-    sym (exactly one (point (pos 2) (pos 2)) (ordered-yes one tt) undecided .0
+    sym (exactly one (point (pos 2) (pos 2)) (ordered-yes one tt) Undecided .0
     (undecided-yes one (point (pos 2) (pos 2)) SouthWest (pos 1) (pos 0) (entry SouthWest 1 ∷ entry NorthEast 1 ∷ entry SouthWest 0 ∷ []) tt tt tt tt tt tt tt))
 
-second : wordOf one (point (pos 5) (pos 2)) ≡ outside
+second : wordOf one (point (pos 5) (pos 2)) ≡ Outside
 unfolding one
-second = sym (exactly one (point (pos 5) (pos 2)) (ordered-yes one tt) outside .0 (outside-yes one (point (pos 5) (pos 2)) (pos 1) (pos 0) tt))
+second = sym (exactly one (point (pos 5) (pos 2)) (ordered-yes one tt) Outside .0 (outside-yes one (point (pos 5) (pos 2)) (pos 1) (pos 0) tt))
 
 -- what it holds
 held : contentOf example ≡ record { fault = none; boxes = one; plugs = point (pos 2) (pos 2) ∷ point (pos 5) (pos 2) ∷ []; notes = 0 }
-unfolding contentOf readFrom formFault kindFault kindOf nextAt markAt boxAt plugAt numberAt one
+unfolding contentOf readFrom formFault kindFault kindOf nextAt markAt fileBoxAt filePlugAt numberAt one
 held = refl
 
 -- what it prints
 pub printed : textOf example ≡ ascii "boxes 1 plugs 2\n1 undecided\n2 outside\n"
-unfolding textOf wholeFault inputFault flatMap one boxListFault eachBoxFault boxFault farFault reversedFault beyond plugFault plugLines plugLine countLine decimal digitsOf
+unfolding textOf wholeFault inputFault flatMap one boxListFault eachBoxFault boxFault edgeBeyond edgesReversed beyond plugFault plugLines plugLine countLine decimal digitsOf
 printed = rw (held, first, second)

@@ -3,13 +3,11 @@
 --     Writing    texts written one behind another
 --     Answers    a plug's word
 --     Lines      the plugs' lines
---     Polygons   room for the polygons
 --     Texts      the whole text
 --     Example    document 01's example
 pub mod Decimals
 pub mod Writing
 pub mod Answers
 pub mod Lines
-pub mod Polygons
 pub mod Texts
 pub mod Example

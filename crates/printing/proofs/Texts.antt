@@ -8,33 +8,36 @@ use lib.IntN.{ℤ}
 use lib.ListN.{length, take, drop, length-append}
 use lib.Seq.{take-at}
 use Rattle.rounds.specs.Boxes.{boxesOf, plugsOf}
-use Rattle.rounds.specs.Refusals.{Fault, none, fault, refusalFault, _orElse_, inputFault, bufferFault, boxListFault, readFault}
-use Rattle.rounds.specs.Replies.{replyUnder, bufferUnder}
+use Rattle.rounds.specs.Refusals.{Fault, none, fault, numberOf, refusalFault, mostInput, _orElse_, inputFault, bufferFault, boxListFault, readFault}
+use Rattle.rounds.specs.Replies.{refusalReply, replyUnder, bufferUnder}
+use Rattle.plane.specs.Points.{Point}
+use Rattle.rounds.specs.declared.Box.{Box}
+use Rattle.rounds.specs.declared.Cause.the-variants.{InputTooLong}
 use Rattle.rounds.specs.declared.Refusal.{Refusal}
 use Rattle.rounds.proofs.Rows.{boxes-length}
-use Rattle.files.specs.Content.{contentOf}
-use Rattle.files.specs.Promises.{edges, coordinates, countsOf, readingReply, readerFault, RoundRead}
-use Rattle.files.specs.declared.Counts.{Counts}
-use Rattle.files.specs.declared.Reading.{Reading}
-use Rattle.files.specs.declared.Reading.the-variants.{Read, Refused}
-use Rattle.files.proofs.Bytes.{length-flat, count-plugs}
-use Rattle.files.proofs.Replies.{result-none, refused-fault}
-use Rattle.files.proofs.Scan.{short}
-use Rattle.files.proofs.RoundTrips.{boxes-flat, plugs-flat}
+use Rattle.formats.specs.Content.{contentOf}
+use Rattle.formats.specs.Promises.{edges, coordinates, countsOf, readingReply, readerFault, RoundRead}
+use Rattle.formats.specs.declared.Counts.{Counts}
+use Rattle.formats.specs.declared.Reading.{Reading}
+use Rattle.formats.specs.declared.Reading.the-variants.{Read, Refused}
+use Rattle.formats.proofs.Bytes.{length-flat, count-plugs}
+use Rattle.formats.proofs.Replies.{result-none}
+use Rattle.formats.proofs.Scan.{short}
+use Rattle.formats.proofs.RoundTrips.{boxes-flat, plugs-flat}
 use Rattle.printing.specs.Text.{refusedLine, countLine, plugLines, wholeFault, textUnder, textOf}
-use Rattle.printing.specs.Steps.{roundText}
+use Rattle.printing.specs.Steps.{mostCountLine, mostRead, roundText}
 use Rattle.printing.proofs.Decimals.{twenty-digits}
 
 -- ---- of two lists
 
 -- the line of the counts has at most 54 bytes
-pub few-count : (b p : ℕ) → b < 2 ^ 64 → p < 2 ^ 64 → length (countLine b p) ≤ 54
+pub few-count : (b p : ℕ) → b < 2 ^ 64 → p < 2 ^ 64 → length (countLine b p) ≤ mostCountLine
 unfolding countLine
 few-count b p h k = simp length-append (omega (arith, twenty-digits b h, twenty-digits p k))
 
 module _ (boxes plugs : List ℤ) where
   -- refused boxes
-  pub round-refused : (r : Refusal) → boxListFault boxes ≡ refusalFault r → refusedLine (r .number) (r .place) ≡ roundText boxes plugs
+  pub round-refused : (r : Refusal) → boxListFault boxes ≡ refusalFault r → refusedLine (numberOf (r .cause)) (r .place) ≡ roundText boxes plugs
   unfolding roundText
   round-refused r e = sym (ap (λ f. textUnder f (boxesOf boxes) (plugsOf plugs)) e)
 
@@ -48,53 +51,60 @@ module _ (boxes plugs : List ℤ) where
 -- ---- of a file
 
 -- over 65,536 bytes
-pub text-long : (file : List ℕ) → 65536 < length file → refusedLine 12 65536 ≡ textOf file
+pub text-long : (file : List ℕ) → mostInput < length file → refusedLine (numberOf InputTooLong) mostInput ≡ textOf file
 unfolding textOf wholeFault inputFault
-text-long file h = rw (lt-ltb 65536 (length file) h)
+text-long file h = rw (lt-ltb mostInput (length file) h)
 
-module _ (file : List ℕ) (h : length file ≤ 65536) where
+-- the refusal behind a reply, before any other
+refused-text : (r : Refusal) (counts : Counts) (f g : Fault) (boxes : List Box) (plugs : List Point) → refusalReply r ≡ replyUnder f counts
+    → refusedLine (numberOf (r .cause)) (r .place) ≡ textUnder (f orElse g) boxes plugs
+refused-text r counts none g boxes plugs e = let z : _≡_ {A = ℕ} 0 1 = cc in absurd (omega arith)
+refused-text r counts (fault c p) g boxes plugs e = cc
+
+module _ (file : List ℕ) (h : length file ≤ mostInput) where
   -- refused by the reader
-  pub text-refused : (r : Refusal) → contentOf file .fault ≡ refusalFault r → refusedLine (r .number) (r .place) ≡ textOf file
+  pub text-refused : (r : Refusal) (counts : Counts) → refusalReply r ≡ replyUnder (contentOf file .fault) counts → refusedLine (numberOf (r .cause)) (r .place) ≡ textOf file
   unfolding textOf wholeFault inputFault
-  text-refused r e = rw (le-ltb 65536 (length file) h, e)
+  text-refused r counts e =
+      rw (le-ltb mostInput (length file) h) (refused-text r counts (contentOf file .fault) (boxListFault (flatMap edges (contentOf file .boxes))) (contentOf file .boxes) (contentOf file .plugs) e)
 
   -- read
   pub text-read : contentOf file .fault ≡ none → roundText (flatMap edges (contentOf file .boxes)) (flatMap coordinates (contentOf file .plugs)) ≡ textOf file
   unfolding textOf wholeFault inputFault roundText
-  text-read e = rw (le-ltb 65536 (length file) h, e, boxes-flat (contentOf file .boxes), plugs-flat (contentOf file .plugs))
+  text-read e = rw (le-ltb mostInput (length file) h, e, boxes-flat (contentOf file .boxes), plugs-flat (contentOf file .plugs))
 
 -- ---- what the reader leaves of such a file in two buffers of 16,384 numbers
 
 -- there were so many boxes and plugs, whose numbers are the first of both buffers
 pub record Taken (file : List ℕ) (counts : Counts) (boxes plugs : List ℤ) : Type 0 where
   pub well-formed : contentOf file .fault ≡ none
-  pub few-boxes : 4 * counts .boxes ≤ 16384
-  pub few-plugs : 2 * counts .plugs ≤ 16384
+  pub few-boxes : 4 * counts .boxes ≤ mostRead
+  pub few-plugs : 2 * counts .plugs ≤ mostRead
   pub boxes-are : take (4 * counts .boxes) boxes ≡ flatMap edges (contentOf file .boxes)
   pub plugs-are : take (2 * counts .plugs) plugs ≡ flatMap coordinates (contentOf file .plugs)
 
 or-none : (f : Fault) → f orElse none ≡ f
 or-none none = refl
-or-none (fault n p) = refl
+or-none (fault c p) = refl
 
-module _ (file : List ℕ) (h : length file ≤ 65536) {boxes plugs boxes′ plugs′ : List ℤ} {reading : Reading}
-    (l : length boxes ≡ 16384) (m : length plugs ≡ 16384) (r : RoundRead file boxes plugs reading boxes′ plugs′) where
-  room-boxes : 4 * length (contentOf file .boxes) ≤ 16384
+module _ (file : List ℕ) (h : length file ≤ mostInput) {boxes plugs boxes′ plugs′ : List ℤ} {reading : Reading}
+    (l : length boxes ≡ mostRead) (m : length plugs ≡ mostRead) (r : RoundRead file boxes plugs reading boxes′ plugs′) where
+  room-boxes : 4 * length (contentOf file .boxes) ≤ mostRead
   room-boxes = omega (arith, short file)
 
-  room-plugs : 2 * length (contentOf file .plugs) ≤ 16384
+  room-plugs : 2 * length (contentOf file .plugs) ≤ mostRead
   room-plugs = omega (arith, short file)
 
   -- both are long enough, so 7 does not arise
   only-form : readerFault file boxes plugs ≡ contentOf file .fault
   unfolding readerFault readFault bufferFault
-  only-form = rw (l, m, le-ltb 16384 (4 * length (contentOf file .boxes)) room-boxes, le-ltb 16384 (2 * length (contentOf file .plugs)) room-plugs) (or-none (contentOf file .fault))
+  only-form = rw (l, m, le-ltb mostRead (4 * length (contentOf file .boxes)) room-boxes, le-ltb mostRead (2 * length (contentOf file .plugs)) room-plugs) (or-none (contentOf file .fault))
 
   reply : readingReply reading ≡ replyUnder (contentOf file .fault) (countsOf (contentOf file))
   reply = r .reply ∙ ap (λ f. replyUnder f (countsOf (contentOf file))) only-form
 
-  pub was-refused : {x : Refusal} → reading ≡ Refused x → contentOf file .fault ≡ refusalFault x
-  was-refused i = refused-fault (contentOf file .fault) (countsOf (contentOf file)) (sym (ap readingReply i) ∙ reply)
+  pub was-refused : {x : Refusal} → reading ≡ Refused x → refusalReply x ≡ replyUnder (contentOf file .fault) (countsOf (contentOf file))
+  was-refused i = sym (ap readingReply i) ∙ reply
 
   -- the front of a buffer at exit
   front : {k : ℕ} (new entry exit : List ℤ) → k ≡ length new → contentOf file .fault ≡ none

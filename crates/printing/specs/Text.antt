@@ -4,14 +4,16 @@ use Prim.Native.Char.{code}
 use Prim.Native.String.{String, [] as ε, _∷_ as _◁_}
 use mathlib.Core.Path.{_≡_}
 use mathlib.Core.List.{List, [], _∷_, _++_, flatMap}
-use lib.ListN.{length, drop}
+use lib.ListN.{length}
 use Rattle.plane.specs.Points.{Point}
-use Rattle.rounds.specs.Boxes.{Box}
-use Rattle.rounds.specs.Refusals.{Fault, none, fault, _orElse_, inputFault, boxListFault, plugFault}
-use Rattle.rounds.specs.Replies.{Reply, result, refused, replyUnder}
-use Rattle.rounds.specs.Words.{Word, inside, outside, undecided, wordOf}
-use Rattle.files.specs.Content.{contentOf}
-use Rattle.files.specs.Promises.{edges}
+use Rattle.rounds.specs.declared.Box.{Box}
+use Rattle.rounds.specs.Refusals.{Fault, none, fault, numberOf, _orElse_, inputFault, boxListFault, plugFault}
+use Rattle.rounds.specs.Replies.{Reply, result, refused, replyUnder, bufferUnder}
+use Rattle.rounds.specs.Words.{wordOf}
+use Rattle.rounds.specs.declared.Word.{Word}
+use Rattle.rounds.specs.declared.Word.the-variants.{Inside, Outside, Undecided}
+use Rattle.formats.specs.Content.{contentOf}
+use Rattle.formats.specs.Promises.{edges}
 use Rattle.printing.specs.Decimals.{decimal}
 
 -- a text as the ASCII codes of its characters
@@ -29,14 +31,18 @@ countLine boxes plugs = ascii "boxes " ++ decimal boxes ++ ascii " plugs " ++ de
 
 -- the three words
 abbrev pub wordText : Word → List ℕ
-wordText inside = ascii "inside"
-wordText outside = ascii "outside"
-wordText undecided = ascii "undecided"
+wordText Inside = ascii "inside"
+wordText Outside = ascii "outside"
+wordText Undecided = ascii "undecided"
 
 -- what stands after a plug's number: a word, or `refused 6` for a plug beyond ±16,000
 abbrev pub replyText : Reply Word → List ℕ
 replyText (result word) = wordText word
 replyText (refused number place) = ascii "refused 6"
+
+-- the same with the space before it and the line's end
+abbrev pub afterNumber : Reply Word → List ℕ
+afterNumber reply = ascii " " ++ replyText reply ++ ascii "\n"
 
 -- the reply on one plug of accepted boxes
 abbrev pub plugReply : List Box → Point → Reply Word
@@ -44,7 +50,7 @@ plugReply boxes plug = replyUnder (plugFault 1 plug) (wordOf boxes plug)
 
 -- the line of plug number k: its number, and a word or `refused 6`
 unfoldable pub plugLine : ℕ → Reply Word → List ℕ
-plugLine k reply = decimal k ++ ascii " " ++ replyText reply ++ ascii "\n"
+plugLine k reply = decimal k ++ afterNumber reply
 
 -- plug by plug, the first of them having the number k
 unfoldable pub plugLines : ℕ → List Box → List Point → List ℕ
@@ -57,7 +63,7 @@ wholeFault file = inputFault (length file) orElse contentOf file .fault orElse b
 
 -- one line under a fault; otherwise the counts, then a line for each plug
 abbrev pub textUnder : Fault → List Box → List Point → List ℕ
-textUnder (fault number place) boxes plugs = refusedLine number place
+textUnder (fault cause place) boxes plugs = refusedLine (numberOf cause) place
 textUnder none boxes plugs = countLine (length boxes) (length plugs) ++ plugLines 1 boxes plugs
 
 -- what the printing program prints for an input
@@ -67,4 +73,4 @@ textOf file = textUnder (wholeFault file) (contentOf file .boxes) (contentOf fil
 -- a text was written to the front of a lent buffer, whose remainder is as it was; its length is returned
 pub record Wrote (text entry : List ℕ) (count : ℕ) (exit : List ℕ) : Type 0 where
   pub counted : count ≡ length text
-  pub bytes : exit ≡ text ++ drop (length text) entry
+  pub bytes : exit ≡ bufferUnder none text entry

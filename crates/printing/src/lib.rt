@@ -1,23 +1,41 @@
-// The text of the printing program of document 01, as a function from the bytes that it reads to the bytes that it prints.
+// The text of the printing program of document 01: from the bytes that it reads to the bytes that it prints.
 //
 // Each step writes at the front of what it is lent, returns how much it wrote, and leaves the remainder as it was.
-use files::Reading;
-use rounds::Checked;
-use rounds::Corner;
-use rounds::Refusal;
-use verdicts::PlugWord;
-use words::Word;
-ghost use Prim.Native.Nat.{_+_, _*_, _/_, _≤_};
+ghost use Prim.Native.Nat.{_+_, _≤_};
 ghost use mathlib.Core.Path.{_≡_};
 ghost use mathlib.Core.List.{_++_};
 ghost use lib.ListN.{length};
 ghost use Rattle.plane.specs.Points.{point};
-ghost use Rattle.rounds.specs.Boxes.{boxesOf, plugsOf};
-ghost use Rattle.rounds.specs.Refusals.{none, boxListFault};
+ghost use Rattle.rounds.specs.Boxes.{BoxList, boxesOf, plugsOf};
+ghost use Rattle.rounds.specs.Refusals.{numberOf};
+ghost use Rattle.rounds.specs.Replies.{result};
 ghost use Rattle.verdicts.specs.Verdicts.{wordReply};
 ghost use Rattle.printing.specs.Decimals.{decimal};
-ghost use Rattle.printing.specs.Text.{ascii, replyText, refusedLine, countLine, plugLine, plugLines, textOf, Wrote};
-ghost use Rattle.printing.specs.Steps.{AnyPlug, WordBy, LinesBy, LineRoom, roundText};
+ghost use Rattle.printing.specs.Text.{ascii, refusedLine, countLine, afterNumber, plugLine, plugLines};
+ghost use Rattle.printing.specs.Text.{textOf, Wrote};
+ghost use Rattle.printing.specs.Steps.{mostRefusedLine, mostCountLine, mostAfterNumber, LineRoom};
+ghost use Rattle.printing.specs.Steps.{AnyPlug, WordBy, LinesBy, roundText};
+use formats::Reading;
+use outlines::RoundCounts;
+use rounds::Cause;
+use rounds::Checked;
+use rounds::MOST_INPUT;
+use rounds::MOST_NUMBERS;
+use rounds::Refusal;
+use rounds::Word;
+use verdicts::WordReply;
+
+// The length of the text's buffer, in which the text of every input has room.
+pub const TEXT_LENGTH: usize = 131072;
+
+// The most numbers of boxes, and of plugs, that an input holds, each in four bytes.
+const MOST_READ: usize = 16384;
+
+// The most vertices of the five polygons of a round.
+const MOST_VERTICES: usize = 8192;
+
+// The ASCII code of the digit 0.
+const ZERO: u8 = 48;
 
 // Writes bytes.
 fn write_bytes(bytes: &[u8], out: &mut [u8]) -> usize
@@ -38,11 +56,11 @@ fn write_decimal(number: usize, out: &mut [u8]) -> usize
     ensures { λ r. ⌜ Wrote (decimal number) (now (out .entry)) r (now (out .exit)) ⌝ }
 {
     if number < 10 {
-        out[0] = 48 + (number as u8);
+        out[0] = ZERO + (number as u8);
         return 1;
     }
     let count = write_decimal(number / 10, out);
-    out[count] = 48 + ((number % 10) as u8);
+    out[count] = ZERO + ((number % 10) as u8);
     count + 1
 }
 
@@ -57,8 +75,11 @@ fn write_field(label: &[u8], number: usize, out: &mut [u8]) -> usize
 
 // Writes a line of two fields, each a label and a number.
 fn write_fields(first: &[u8], a: usize, second: &[u8], b: usize, out: &mut [u8]) -> usize
-    requires { ⌜ length (now first) + length (decimal a) + length (now second) + length (decimal b) + 1 ≤ length (now out) ⌝ }
-    ensures { λ r. ⌜ Wrote (now (first .entry) ++ decimal a ++ now (second .entry) ++ decimal b ++ ascii "\n") (now (out .entry)) r (now (out .exit)) ⌝ }
+    requires { ⌜ length (now first) + length (decimal a) + length (now second) + length (decimal b) + 1 ≤
+        length (now out) ⌝ }
+    ensures { λ r. ⌜ Wrote
+        (now (first .entry) ++ decimal a ++ now (second .entry) ++ decimal b ++ ascii "\n")
+        (now (out .entry)) r (now (out .exit)) ⌝ }
 {
     let n = write_field(first, a, out);
     let m = n + write_field(second, b, &mut out[n..]);
@@ -67,131 +88,108 @@ fn write_fields(first: &[u8], a: usize, second: &[u8], b: usize, out: &mut [u8])
 
 // Writes the line of a refused file or round.
 fn write_refusal(refusal: Refusal, out: &mut [u8]) -> usize
-    requires { ⌜ 50 ≤ length (now out) ⌝ }
-    ensures { λ r. ⌜ Wrote (refusedLine (refusal .number) (refusal .place)) (now (out .entry)) r (now (out .exit)) ⌝ }
+    requires { ⌜ mostRefusedLine ≤ length (now out) ⌝ }
+    ensures { λ r. ⌜ Wrote
+        (refusedLine (numberOf (refusal .cause)) (refusal .place)) (now (out .entry)) r (now (out .exit)) ⌝ }
 {
-    write_fields(
-        b"refused ",
-        refusal.number as usize,
-        b" ",
-        refusal.place,
-        out,
-    )
+    let cause = refusal.cause;
+    let number = checks::number_of(cause) as usize;
+    write_fields(b"refused ", number, b" ", refusal.place, out)
 }
 
 // Writes the line of the counts.
 fn write_counts(boxes: usize, plugs: usize, out: &mut [u8]) -> usize
-    requires { ⌜ 54 ≤ length (now out) ⌝ }
+    requires { ⌜ mostCountLine ≤ length (now out) ⌝ }
     ensures { λ r. ⌜ Wrote (countLine boxes plugs) (now (out .entry)) r (now (out .exit)) ⌝ }
 {
     write_fields(b"boxes ", boxes, b" plugs ", plugs, out)
 }
 
-// Writes what stands after a plug's number.
-fn write_word(word: PlugWord, out: &mut [u8]) -> usize
-    requires { ⌜ 11 ≤ length (now out) ⌝ }
-    ensures { λ r. ⌜ Wrote (ascii " " ++ replyText (wordReply word) ++ ascii "\n") (now (out .entry)) r (now (out .exit)) ⌝ }
+// Writes a word after a plug's number.
+fn write_word(word: Word, out: &mut [u8]) -> usize
+    requires { ⌜ mostAfterNumber ≤ length (now out) ⌝ }
+    ensures { λ r. ⌜ Wrote (afterNumber (result word)) (now (out .entry)) r (now (out .exit)) ⌝ }
 {
     match word {
-        PlugWord::Inside => write_bytes(b" inside\n", out),
-        PlugWord::Outside => write_bytes(b" outside\n", out),
-        PlugWord::Undecided => write_bytes(b" undecided\n", out),
-        PlugWord::Refused(_) => write_bytes(b" refused 6\n", out),
+        Word::Inside => write_bytes(b" inside\n", out),
+        Word::Outside => write_bytes(b" outside\n", out),
+        Word::Undecided => write_bytes(b" undecided\n", out),
+    }
+}
+
+// Writes what stands after a plug's number.
+fn write_reply(reply: WordReply, out: &mut [u8]) -> usize
+    requires { ⌜ mostAfterNumber ≤ length (now out) ⌝ }
+    ensures { λ r. ⌜ Wrote (afterNumber (wordReply reply)) (now (out .entry)) r (now (out .exit)) ⌝ }
+{
+    match reply {
+        WordReply::Given(word) => write_word(word, out),
+        WordReply::Refused(_) => write_bytes(b" refused 6\n", out),
     }
 }
 
 // Writes the line of a plug.
-fn write_plug_line(number: usize, word: PlugWord, out: &mut [u8]) -> usize
-    requires { ⌜ length (decimal number) + 11 ≤ length (now out) ⌝ }
-    ensures { λ r. ⌜ Wrote (plugLine number (wordReply word)) (now (out .entry)) r (now (out .exit)) ⌝ }
+fn write_plug_line(number: usize, reply: WordReply, out: &mut [u8]) -> usize
+    requires { ⌜ length (decimal number) + mostAfterNumber ≤ length (now out) ⌝ }
+    ensures { λ r. ⌜ Wrote (plugLine number (wordReply reply)) (now (out .entry)) r (now (out .exit)) ⌝ }
 {
     let n = write_decimal(number, out);
-    n + write_word(word, &mut out[n..])
+    n + write_reply(reply, &mut out[n..])
 }
 
-// The word of a plug against the polygons of some boxes, or its refusal.
-fn word_by(
-    outer: &[u32],
-    sw: &[u32],
-    se: &[u32],
-    ne: &[u32],
-    nw: &[u32],
-    east: i32,
-    north: i32,
-) -> PlugWord
-    requires { ⌜ AnyPlug (now outer) (now sw) (now se) (now ne) (now nw) ⌝ }
-    ensures { λ r. ⌜ WordBy (now (outer .entry)) (now (sw .entry)) (now (se .entry)) (now (ne .entry)) (now (nw .entry)) (point east north) r ⌝ }
+// The word of a plug against the polygons of a round, or its refusal.
+fn word_by(vertices: &[u32], counts: RoundCounts, east: i32, north: i32) -> WordReply
+    requires { ⌜ AnyPlug (now vertices) counts ⌝ }
+    ensures { λ r. ⌜ WordBy (now (vertices .entry)) counts (point east north) r ⌝ }
 {
-    let checked = rounds::check_plug(east, north, 1);
+    let checked = checks::check_plug(east, north, 1);
     if let Checked::Refused(refusal) = checked {
-        return PlugWord::Refused(refusal);
+        return WordReply::Refused(refusal);
     }
-    let word = words::word_in(outer, sw, se, ne, nw, turns::key_of(east, north));
-    match word {
-        Word::Inside => PlugWord::Inside,
-        Word::Outside => PlugWord::Outside,
-        Word::Undecided => PlugWord::Undecided,
-    }
+    let plug = turns::key_of(east, north);
+    let word = words::word_in(vertices, counts, plug);
+    WordReply::Given(word)
 }
 
-// Writes the line of each plug, against the polygons of some boxes.
-fn write_lines(
-    outer: &[u32],
-    sw: &[u32],
-    se: &[u32],
-    ne: &[u32],
-    nw: &[u32],
-    plugs: &[i32],
-    out: &mut [u8],
-) -> usize
-    requires { ⌜ AnyPlug (now outer) (now sw) (now se) (now ne) (now nw) ⌝ }
-    requires { ⌜ LineRoom (now plugs) (now out) ⌝ }
-    ensures { λ r. ⌜ LinesBy (now (outer .entry)) (now (sw .entry)) (now (se .entry)) (now (ne .entry)) (now (nw .entry)) (now (plugs .entry)) (now (out .entry)) r (now (out .exit)) ⌝ }
+// Writes the line of each plug, against the polygons of a round.
+fn write_lines(vertices: &[u32], counts: RoundCounts, plugs: &[i32], out: &mut [u8]) -> usize
+    requires { ⌜ AnyPlug (now vertices) counts × LineRoom 0 (now plugs) (now out) ⌝ }
+    ensures { λ r. ⌜ LinesBy
+        (now (vertices .entry)) counts (now (plugs .entry)) (now (out .entry)) r (now (out .exit)) ⌝ }
 {
     let count = plugs.len() / 2;
     let mut done: usize = 0;
     let mut k: usize = 0;
     while k < count {
         let at = k * 2;
-        let word = word_by(outer, sw, se, ne, nw, plugs[at], plugs[at + 1]);
-        done += write_plug_line(k + 1, word, &mut out[done..]);
+        let reply = word_by(vertices, counts, plugs[at], plugs[at + 1]);
+        done += write_plug_line(k + 1, reply, &mut out[done..]);
         k += 1;
     }
     done
 }
 
-// Writes the line of each plug of accepted boxes. The polygons of the boxes are made once.
+// Writes the line of each plug. The polygons of the boxes are made once.
 fn write_plugs(boxes: &[i32], plugs: &[i32], out: &mut [u8]) -> usize
-    requires { ⌜ (boxListFault (now boxes) ≡ none) × LineRoom (now plugs) (now out) ⌝ }
-    ensures { λ r. ⌜ Wrote (plugLines 1 (boxesOf (now (boxes .entry))) (plugsOf (now (plugs .entry)))) (now (out .entry)) r (now (out .exit)) ⌝ }
+    requires { ⌜ BoxList (now boxes) × LineRoom 0 (now plugs) (now out) ⌝ }
+    ensures { λ r. ⌜ Wrote
+        (plugLines 1 (boxesOf (now (boxes .entry))) (plugsOf (now (plugs .entry))))
+        (now (out .entry)) r (now (out .exit)) ⌝ }
 {
-    let mut outer = [0u32; 4096];
-    let mut sw = [0u32; 1024];
-    let mut se = [0u32; 1024];
-    let mut ne = [0u32; 1024];
-    let mut nw = [0u32; 1024];
-    let o = outlines::outer_polygon(boxes, &mut outer);
-    let a = outlines::corner_polygon(boxes, Corner::SouthWest, &mut sw);
-    let b = outlines::corner_polygon(boxes, Corner::SouthEast, &mut se);
-    let c = outlines::corner_polygon(boxes, Corner::NorthEast, &mut ne);
-    let d = outlines::corner_polygon(boxes, Corner::NorthWest, &mut nw);
-    write_lines(
-        &outer[..o],
-        &sw[..a],
-        &se[..b],
-        &ne[..c],
-        &nw[..d],
-        plugs,
-        out,
-    )
+    let mut vertices = [0u32; MOST_VERTICES];
+    let mut keys = [0u32; MOST_NUMBERS];
+    let mut mirror = [0u32; MOST_NUMBERS];
+    let counts = outlines::round_outlines(boxes, &mut vertices, &mut keys, &mut mirror);
+    write_lines(&vertices, counts, plugs, out)
 }
 
 // Writes the text of a box list and a plug list.
 fn write_round_text(boxes: &[i32], plugs: &[i32], out: &mut [u8]) -> usize
-    requires { ⌜ (length (now plugs) / 2 ≤ 9999) × (54 + 15 * (length (now plugs) / 2) ≤ length (now out)) ⌝ }
-    ensures { λ r. ⌜ Wrote (roundText (now (boxes .entry)) (now (plugs .entry))) (now (out .entry)) r (now (out .exit)) ⌝ }
+    requires { ⌜ LineRoom mostCountLine (now plugs) (now out) ⌝ }
+    ensures { λ r. ⌜ Wrote
+        (roundText (now (boxes .entry)) (now (plugs .entry))) (now (out .entry)) r (now (out .exit)) ⌝ }
 {
-    let checked = rounds::check_boxes(boxes);
+    let checked = checks::check_boxes(boxes);
     if let Checked::Refused(refusal) = checked {
         return write_refusal(refusal, out);
     }
@@ -200,20 +198,20 @@ fn write_round_text(boxes: &[i32], plugs: &[i32], out: &mut [u8]) -> usize
 }
 
 // Writes what the printing program prints for an input, and returns its length.
-pub fn write_text(file: &[u8], text: &mut [u8; 131072]) -> usize
+pub fn write_text(file: &[u8], text: &mut [u8; TEXT_LENGTH]) -> usize
     ensures { λ r. ⌜ Wrote (textOf (now (file .entry))) (now (text .entry)) r (now (text .exit)) ⌝ }
 {
-    if 65536 < file.len() {
+    if MOST_INPUT < file.len() {
         return write_refusal(
             Refusal {
-                number: 12,
-                place: 65536,
+                cause: Cause::InputTooLong,
+                place: MOST_INPUT,
             },
             text,
         );
     }
-    let mut boxes = [0i32; 16384];
-    let mut plugs = [0i32; 16384];
+    let mut boxes = [0i32; MOST_READ];
+    let mut plugs = [0i32; MOST_READ];
     let reading = files::read_round(file, &mut boxes, &mut plugs);
     match reading {
         Reading::Read(counts) => {

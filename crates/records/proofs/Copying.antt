@@ -9,19 +9,19 @@ use lib.IntN.{ℤ, pos}
 use lib.ListN.{length, getD, take, drop, replicate, length-append, length-replicate, drop-of-length-le}
 use lib.Seq.{sets, sets-eq, length-sets, length-take-le, take-at, drop-cons}
 use Rattle.records.specs.Records.{edgesOf, CopyCount, Holds}
-use Rattle.records.specs.declared.BoxEdges.{BoxEdges}
+use Rattle.rounds.specs.declared.Box.{Box}
 
 -- four numbers for each record
-pub edges-length : (bs : List BoxEdges) → length (edgesOf bs) ≡ length bs * 4
+pub edges-length : (bs : List Box) → length (edgesOf bs) ≡ length bs * 4
 edges-length [] = refl
 edges-length (b ∷ bs) = omega (arith, edges-length bs)
 
 -- what stands past the end of a list of records
-abbrev pub noBox : BoxEdges
+abbrev pub noBox : Box
 noBox = record { west = pos 0; south = pos 0; east = pos 0; north = pos 0 }
 
 -- the array with the edges of b at place i
-abbrev pub boxPut : List ℤ → ℕ → BoxEdges → List ℤ
+abbrev pub boxPut : List ℤ → ℕ → Box → List ℤ
 boxPut xs i b = sets xs (i * 4) (edgesOf (b ∷ []))
 
 -- an index is below a number, or is not
@@ -42,16 +42,16 @@ copied-within n k i c l =
 -- ---- the loop
 
 -- the first i records of bs are copied, and the others follow in the flat list
-pub record Copied (bs : List BoxEdges) (i : ℕ) (xs : List ℤ) : Type 0 where
+pub record Copied (bs : List Box) (i : ℕ) (xs : List ℤ) : Type 0 where
   pub long : length xs ≡ 4096
   pub within : i ≤ length bs
   pub so-far : take (i * 4) xs ++ edgesOf (drop i bs) ≡ edgesOf bs
 
 -- none is copied
-pub starts : (bs : List BoxEdges) → Copied bs 0 (replicate 4096 (pos 0))
+pub starts : (bs : List Box) → Copied bs 0 (replicate 4096 (pos 0))
 starts bs = record { long = length-replicate 4096 (pos 0); within = zero-le; so-far = refl }
 
-module _ (bs : List BoxEdges) (i : ℕ) (xs : List ℤ) (h : Copied bs i xs) (l : i < length bs) (m : i < 1024) where
+module _ (bs : List Box) (i : ℕ) (xs : List ℤ) (h : Copied bs i xs) (l : i < length bs) (m : i < 1024) where
   -- the front that stays
   front : length (take (i * 4) xs) ≡ i * 4
   front = length-take-le (i * 4) xs (omega (arith, h .long))
@@ -69,15 +69,15 @@ module _ (bs : List BoxEdges) (i : ℕ) (xs : List ℤ) (h : Copied bs i xs) (l 
         within = omega arith;
         so-far =
             rw (put-front, append-assoc, add-one i)
-            (ap (λ (ys : List BoxEdges). take (i * 4) xs ++ edgesOf ys) (sym (drop-cons bs i noBox l)) ∙ h .so-far);
+            (ap (λ (ys : List Box). take (i * 4) xs ++ edgesOf ys) (sym (drop-cons bs i noBox l)) ∙ h .so-far);
       }
 
 -- no record is left
-pub ends : (bs : List BoxEdges) (count i : ℕ) (xs : List ℤ) → CopyCount (length bs) count → Copied bs i xs → count ≤ i → Holds (edgesOf bs) xs
+pub ends : (bs : List Box) (count i : ℕ) (xs : List ℤ) → CopyCount (length bs) count → Copied bs i xs → count ≤ i → Holds (edgesOf bs) xs
 ends bs count i xs k h l =
     record {
       front = λ r.
           let e : count ≡ length bs = k .all (omega (arith, edges-length bs)) in
           let n : length (edgesOf bs) ≡ i * 4 = omega (arith, edges-length bs, h .within) in
-          rw n (sym (append-nil (take (i * 4) xs)) ∙ ap (λ (ys : List BoxEdges). take (i * 4) xs ++ edgesOf ys) (sym (drop-of-length-le bs {i = i} (omega arith))) ∙ h .so-far);
+          rw n (sym (append-nil (take (i * 4) xs)) ∙ ap (λ (ys : List Box). take (i * 4) xs ++ edgesOf ys) (sym (drop-of-length-le bs {i = i} (omega arith))) ∙ h .so-far);
     }

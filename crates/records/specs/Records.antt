@@ -7,10 +7,10 @@ use lib.ListN.{length, take}
 use Rattle.plane.specs.Points.{Point}
 use Rattle.verdicts.specs.Verdicts.{VerdictIs}
 use Rattle.verdicts.specs.declared.Verdict.{Verdict}
-use Rattle.records.specs.declared.BoxEdges.{BoxEdges}
+use Rattle.rounds.specs.declared.Box.{Box}
 
 -- the flat list of records: the west, south, east and north of each, in document 01's order
-abbrev pub edgesOf : List BoxEdges → List ℤ
+abbrev pub edgesOf : List Box → List ℤ
 edgesOf [] = []
 edgesOf (b ∷ bs) = b .west ∷ b .south ∷ b .east ∷ b .north ∷ edgesOf bs
 

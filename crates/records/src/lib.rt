@@ -1,5 +1,6 @@
-// The verdict on a plug, for boxes lent as a list of records with four named edges. The records' edges are copied into one flat list, and the
-// verdict is that of the flat list. A list of too many records is turned back with none of them copied.
+// The verdict on a plug, for boxes lent as a list of records with four named edges. The records' edges are copied
+// into one flat list, and the verdict is that of the flat list. A list of too many records is turned back with none
+// of them copied.
 ghost use mathlib.Core.Path.{_≡_};
 ghost use mathlib.Core.List.{[], _∷_};
 ghost use Prim.Native.Nat.{_*_, _<_};
@@ -7,30 +8,25 @@ ghost use lib.Seq.{sets};
 ghost use Rattle.plane.specs.Points.{point};
 ghost use Rattle.verdicts.specs.Verdicts.{VerdictIs};
 ghost use Rattle.records.specs.Records.{edgesOf, CopyCount, Holds, JudgedOn};
+use rounds::Box;
+use rounds::Cause;
+use rounds::MOST_BOXES;
+use rounds::MOST_NUMBERS;
 use rounds::Refusal;
 use verdicts::Verdict;
-
-// A box as a record: four named edges, in whole metres.
-#[repr(C)]
-pub struct BoxEdges {
-    pub west: i32,
-    pub south: i32,
-    pub east: i32,
-    pub north: i32,
-}
 
 // How many of so many records are copied: all of them, or none of a list that is too long.
 fn copied_count(count: usize) -> usize
     ensures { λ r. ⌜ CopyCount count r ⌝ }
 {
-    if count <= 1024 {
+    if count <= MOST_BOXES {
         return count;
     }
     0
 }
 
 // Copies the four edges of the record at place `i`, from 0.
-fn put_box(flat: &mut [i32; 4096], i: usize, b: BoxEdges)
+fn copy_box(flat: &mut [i32; MOST_NUMBERS], i: usize, b: Box)
     requires { ⌜ i < 1024 ⌝ }
     ensures { λ _. ⌜ now (flat .exit) ≡ sets (now (flat .entry)) (i * 4) (edgesOf (b ∷ [])) ⌝ }
 {
@@ -46,26 +42,27 @@ fn put_box(flat: &mut [i32; 4096], i: usize, b: BoxEdges)
 }
 
 // The flat list of the records' edges, at the front of an array, where the array has room for it.
-fn flattened(boxes: &[BoxEdges]) -> [i32; 4096]
+fn flattened(boxes: &[Box]) -> [i32; MOST_NUMBERS]
     ensures { λ r. ⌜ Holds (edgesOf (now (boxes .entry))) r ⌝ }
 {
-    let mut flat = [0i32; 4096];
+    let mut flat = [0i32; MOST_NUMBERS];
     let count = copied_count(boxes.len());
     let mut i = 0;
     while i < count {
-        put_box(&mut flat, i, boxes[i]);
+        copy_box(&mut flat, i, boxes[i]);
         i += 1;
     }
     flat
 }
 
-// The verdict on the flat list of so many boxes at the front of an array; the array has no room for more than 1,024, which are turned back by 3.
-fn judge(flat: [i32; 4096], count: usize, east: i32, north: i32) -> Verdict
+// The verdict on the flat list of so many boxes at the front of an array; the array has no room for more than 1,024,
+// which are turned back by 3.
+fn judge_front(flat: [i32; MOST_NUMBERS], count: usize, east: i32, north: i32) -> Verdict
     ensures { λ r. ⌜ JudgedOn flat count (point east north) r ⌝ }
 {
-    if 1024 < count {
+    if MOST_BOXES < count {
         return Verdict::Refused(Refusal {
-            number: 3,
+            cause: Cause::TooManyBoxes,
             place: count,
         });
     }
@@ -74,8 +71,8 @@ fn judge(flat: [i32; 4096], count: usize, east: i32, north: i32) -> Verdict
 }
 
 // The verdict on the plug at an east and a north: that of the flat list of the records' edges.
-pub fn verdict_on(boxes: &[BoxEdges], east: i32, north: i32) -> Verdict
+pub fn verdict_on(boxes: &[Box], east: i32, north: i32) -> Verdict
     ensures { λ r. ⌜ VerdictIs (edgesOf (now (boxes .entry))) (point east north) r ⌝ }
 {
-    judge(flattened(boxes), boxes.len(), east, north)
+    judge_front(flattened(boxes), boxes.len(), east, north)
 }

@@ -14,9 +14,12 @@ use Rattle.plane.specs.Polygons.{AllRight, Steps, Distinct, Polygon}
 use Rattle.plane.proofs.Sides.{point-ext}
 use Rattle.plane.proofs.Winding.{winding-within}
 use Rattle.plane.proofs.PolygonFacts.{Turns, polygon}
-use Rattle.rounds.specs.Boxes.{Box, Ordered, cornersOf, allCorners}
-use Rattle.rounds.specs.Reasons.{FirstReason, Entry, cornerAt, SecondReason}
-use Rattle.rounds.specs.Words.{Means, inside, outside, undecided}
+use Rattle.rounds.specs.Boxes.{Ordered, cornersOf, allCorners}
+use Rattle.rounds.specs.declared.Box.{Box}
+use Rattle.rounds.specs.Reasons.{FirstReason, cornerAt, SecondReason}
+use Rattle.rounds.specs.declared.Entry.{Entry}
+use Rattle.rounds.specs.Words.{Means}
+use Rattle.rounds.specs.declared.Word.the-variants.{Inside, Outside, Undecided}
 use Rattle.rounds.specs.declared.Corner.{Corner}
 use Rattle.rounds.specs.declared.Corner.the-variants.{SouthWest, SouthEast, NorthEast, NorthWest}
 use Rattle.rounds.proofs.Corners.{inside-by-corners, outside-by-corners}
@@ -117,7 +120,7 @@ insideb bs p vs c = windsb p (vs c) && allb (λ v. isIn v (cornersOf c bs)) (vs 
 
 -- a listing of each corner name's corners winds around the plug
 pub inside-yes : (bs : List Box) (p : Point) (vs : Corner → List Point)
-    → T (insideb bs p vs SouthWest) → T (insideb bs p vs SouthEast) → T (insideb bs p vs NorthEast) → T (insideb bs p vs NorthWest) → Means bs p inside
+    → T (insideb bs p vs SouthWest) → T (insideb bs p vs SouthEast) → T (insideb bs p vs NorthEast) → T (insideb bs p vs NorthWest) → Means bs p Inside
 inside-yes bs p vs sw se ne nw = inside-by-corners p (λ c. winds-not-supported p (vs c) (cornersOf c bs) (at c))
   where
     at : (c : Corner) → T (insideb bs p vs c)
@@ -127,7 +130,7 @@ inside-yes bs p vs sw se ne nw = inside-by-corners p (λ c. winds-not-supported 
     at NorthWest = nw
 
 -- the direction (a, b) has every corner strictly behind it
-pub outside-yes : (bs : List Box) (p : Point) (a b : ℤ) → T (allb (λ v. ltZ (along a b v) (pos 0)) (map (from 1 p) (allCorners bs))) → Means bs p outside
+pub outside-yes : (bs : List Box) (p : Point) (a b : ℤ) → T (allb (λ v. ltZ (along a b v) (pos 0)) (map (from 1 p) (allCorners bs))) → Means bs p Outside
 outside-yes bs p a b t = outside-by-corners p (record { a = a; b = b; behind = all-yes (λ v. ltZ (along a b v) (pos 0)) (λ v s. ltZ-yes s) (map (from 1 p) (allCorners bs)) t })
 
 abbrev pub orderedb : Box → Bool
@@ -146,14 +149,14 @@ first-yes bs p c a b n t =
       behind = all-yes (λ v. leZ (along a b v) (pos 0)) (λ v s. leZ-yes s) (map (from 1 p) (cornersOf c bs)) t;
     }
 
-pub second-yes : (bs : List Box) (p : Point) (es : List Entry) → T (allb (λ e. leb 1 (e .box) && leb (e .box) (length bs)) es) → T (ltb 0 (total (map (λ e. e .weight) es)))
+pub second-yes : (bs : List Box) (p : Point) (es : List Entry) → T (allb (λ e. leb 1 (e .number) && leb (e .number) (length bs)) es) → T (ltb 0 (total (map (λ e. e .weight) es)))
     → T (sameZ (weighted (λ v. v .east) (map (λ e. e .weight) es) (map (λ e. from 1 p (cornerAt 1 bs e)) es)) (pos 0))
     → T (sameZ (weighted (λ v. v .north) (map (λ e. e .weight) es) (map (λ e. from 1 p (cornerAt 1 bs e)) es)) (pos 0)) → SecondReason bs p es
 second-yes bs p es n w e f =
     record {
-      named = all-yes (λ e. leb 1 (e .box) && leb (e .box) (length bs)) (λ e s. (
-        leb→le 1 (e .box) (and-l (leb 1 (e .box)) (leb (e .box) (length bs)) s),
-        leb→le (e .box) (length bs) (and-r (leb 1 (e .box)) (leb (e .box) (length bs)) s),
+      named = all-yes (λ e. leb 1 (e .number) && leb (e .number) (length bs)) (λ e s. (
+        leb→le 1 (e .number) (and-l (leb 1 (e .number)) (leb (e .number) (length bs)) s),
+        leb→le (e .number) (length bs) (and-r (leb 1 (e .number)) (leb (e .number) (length bs)) s),
       )) es n;
       some-weight = ltb→lt 0 (total (map (λ e. e .weight) es)) w;
       east-sum = sameZ-yes (weighted (λ v. v .east) (map (λ e. e .weight) es) (map (λ e. from 1 p (cornerAt 1 bs e)) es)) (pos 0) e;
@@ -163,9 +166,9 @@ second-yes bs p es n w e f =
 -- a corner name and a direction serve the first driver, and the entries the second
 pub undecided-yes : (bs : List Box) (p : Point) (c : Corner) (a b : ℤ) (es : List Entry) → T (allb orderedb bs)
     → T (not (sameZ a (pos 0) && sameZ b (pos 0))) → T (allb (λ v. leZ (along a b v) (pos 0)) (map (from 1 p) (cornersOf c bs)))
-    → T (allb (λ e. leb 1 (e .box) && leb (e .box) (length bs)) es) → T (ltb 0 (total (map (λ e. e .weight) es)))
+    → T (allb (λ e. leb 1 (e .number) && leb (e .number) (length bs)) es) → T (ltb 0 (total (map (λ e. e .weight) es)))
     → T (sameZ (weighted (λ v. v .east) (map (λ e. e .weight) es) (map (λ e. from 1 p (cornerAt 1 bs e)) es)) (pos 0))
-    → T (sameZ (weighted (λ v. v .north) (map (λ e. e .weight) es) (map (λ e. from 1 p (cornerAt 1 bs e)) es)) (pos 0)) → Means bs p undecided
+    → T (sameZ (weighted (λ v. v .north) (map (λ e. e .weight) es) (map (λ e. from 1 p (cornerAt 1 bs e)) es)) (pos 0)) → Means bs p Undecided
 undecided-yes bs p c a b es o n t m w e f = undecided-by p (ordered-yes bs o) c a b es (first-yes bs p c a b n t) (second-yes bs p es m w e f)
 
 -- ---- polygons

@@ -1,5 +1,5 @@
--- Corners decide. T6: a pick with the plug not strictly inside leads to the same at one corner name for every box, with the same direction.
--- T7: a direction that has every corner strictly behind it has every pick strictly behind it. Assumes nothing.
+-- Corners decide. A pick with the plug not strictly inside leads to the same at one corner name for every box, with the same direction.
+-- A direction that has every corner strictly behind it has every pick strictly behind it. Assumes nothing.
 use Prim.Native.Nat.{ℕ, _<_}
 use mathlib.Core.Logic.{_↔_}
 use mathlib.Core.List.{List, _++_, map}
@@ -17,10 +17,12 @@ use Rattle.plane.specs.Vectors.{from, along, Supported, Separated}
 use Rattle.plane.proofs.Lists.{all-map, all-unmap, all-left, all-right}
 use Rattle.plane.proofs.Combos.{separated-not-balanced}
 use Rattle.plane.proofs.Twins.{pt, fromᴱ, alongᴱ}
-use Rattle.rounds.specs.Boxes.{Box, Ordered, cornerOf, cornersOf, allCorners}
-use Rattle.rounds.specs.Picks.{Within, Each, Pick}
+use Rattle.rounds.specs.Boxes.{Ordered, cornerOf, cornersOf, allCorners}
+use Rattle.rounds.specs.declared.Box.{Box}
+use Rattle.rounds.specs.Picks.{InBox, Each, Pick}
 use Rattle.rounds.specs.Reasons.{FirstReason}
-use Rattle.rounds.specs.Words.{FirstSucceeds, Means, inside, outside}
+use Rattle.rounds.specs.Words.{FirstSucceeds, Means}
+use Rattle.rounds.specs.declared.Word.the-variants.{Inside, Outside}
 use Rattle.rounds.specs.declared.Corner.{Corner}
 use Rattle.rounds.specs.declared.Corner.the-variants.{SouthWest, SouthEast, NorthEast, NorthWest}
 
@@ -48,7 +50,7 @@ negative-is : (n : ℕ) → negsuc n <ℤ pos 0
 negative-is n = record { lt = tt }
 
 -- d times the lowest corner is no farther along than a point of the box over d
-pub low : (d : ℕ) (a b : ℤ) (p : Point) (x : Box) (q : Point) → Within d x q → pos d *ℤ along a b (from 1 p (cornerOf (lowest a b) x)) ≤ᶻ along a b (from d p q)
+pub low : (d : ℕ) (a b : ℤ) (p : Point) (x : Box) (q : Point) → InBox d x q → pos d *ℤ along a b (from 1 p (cornerOf (lowest a b) x)) ≤ᶻ along a b (from d p q)
 low d (pos a) (pos b) p x q w = cert 2 5 (λ p q a b d s t.
     # 0 ≼ a ⟹ # 0 ≼ b ⟹ d ⊗ s ≼ q .0 ⟹ d ⊗ t ≼ q .1 ⟹ d ⊗ alongᴱ a b (fromᴱ p (s, t)) ≼ a ⊗ (q .0 ⊖ d ⊗ p .0) ⊕ b ⊗ (q .1 ⊖ d ⊗ p .1)
     ∵ hyp 0 ⊠ hyp 2 ⊞ hyp 1 ⊠ hyp 3) tt (pt p) (pt q) (pos a) (pos b) (pos d) (x .west) (x .south) (pos-nn a) (pos-nn b) (w .from-west) (w .from-south)
@@ -62,7 +64,7 @@ low d (pos a) (negsuc b) p x q w = cert 2 5 (λ p q a b d s t.
     # 0 ≼ a ⟹ b ≺ # 0 ⟹ d ⊗ s ≼ q .0 ⟹ q .1 ≼ d ⊗ t ⟹ d ⊗ alongᴱ a b (fromᴱ p (s, t)) ≼ a ⊗ (q .0 ⊖ d ⊗ p .0) ⊕ b ⊗ (q .1 ⊖ d ⊗ p .1)
     ∵ hyp 0 ⊠ hyp 2 ⊞ hyp 1 ⊠ hyp 3) tt (pt p) (pt q) (pos a) (negsuc b) (pos d) (x .west) (x .north) (pos-nn a) (negative-is b) (w .from-west) (w .to-north)
 
--- ---- T6
+-- ---- a pick with the plug not strictly inside
 
 behind-corners : (d : ℕ) (a b : ℤ) (p : Point) {bs : List Box} {qs : List Point} → 0 < d → Each d bs qs
     → All (λ v. along a b v ≤ℤ pos 0) (map (from d p) qs) → All (λ v. along a b v ≤ℤ pos 0) (map (from 1 p) (cornersOf (lowest a b) bs))
@@ -80,7 +82,7 @@ reason-supported {a = a} {b = b} r = record { a = a; b = b; nonzero = r .nonzero
 
 -- ---- the pick of one corner name
 
-corner-within : (c : Corner) (x : Box) → Ordered x → Within 1 x (cornerOf c x)
+corner-within : (c : Corner) (x : Box) → Ordered x → InBox 1 x (cornerOf c x)
 corner-within c x o = go c
   where
     -- s ≤ t, with one side written 1 · s
@@ -90,7 +92,7 @@ corner-within c x o = go c
     le-r : {s t : ℤ} → s ≤ℤ t → s ≤ᶻ pos 1 *ℤ t
     le-r {s} {t} = lin 0 2 (λ s t. s ≼ t ⟹ s ≼ # 1 ⊗ t) (omega arith) s t
 
-    go : (c : Corner) → Within 1 x (cornerOf c x)
+    go : (c : Corner) → InBox 1 x (cornerOf c x)
     go SouthWest = record { from-west = le-l (≤ℤ-refl (x .west)); to-east = le-r (o .across); from-south = le-l (≤ℤ-refl (x .south)); to-north = le-r (o .upward) }
     go SouthEast = record { from-west = le-l (o .across); to-east = le-r (≤ℤ-refl (x .east)); from-south = le-l (≤ℤ-refl (x .south)); to-north = le-r (o .upward) }
     go NorthEast = record { from-west = le-l (o .across); to-east = le-r (≤ℤ-refl (x .east)); from-south = le-l (o .upward); to-north = le-r (≤ℤ-refl (x .north)) }
@@ -104,13 +106,13 @@ abbrev pub cornerPick : {bs : List Box} → All Ordered bs → Corner → Pick b
 cornerPick {bs} os c = record { denominator = 1; positive = lit< tt; points = cornersOf c bs; in-boxes = corners-within c os }
 
 -- inside, by the four corner lists. (The way back needs no order of the edges.)
-pub inside-by-corners : {bs : List Box} (p : Point) → ((c : Corner) → Supported (map (from 1 p) (cornersOf c bs)) → ⊥) → Means bs p inside
+pub inside-by-corners : {bs : List Box} (p : Point) → ((c : Corner) → Supported (map (from 1 p) (cornersOf c bs)) → ⊥) → Means bs p Inside
 inside-by-corners p f k h = f (lowest (h .a) (h .b)) (reason-supported (corner-reason p k h))
 
-pub inside-iff : {bs : List Box} (p : Point) → All Ordered bs → Means bs p inside ↔ ((c : Corner) → Supported (map (from 1 p) (cornersOf c bs)) → ⊥)
+pub inside-iff : {bs : List Box} (p : Point) → All Ordered bs → Means bs p Inside ↔ ((c : Corner) → Supported (map (from 1 p) (cornersOf c bs)) → ⊥)
 inside-iff p os = (λ h c s. h (cornerPick os c) s, λ f. inside-by-corners p f)
 
--- ---- T7
+-- ---- a direction with every corner strictly behind it
 
 behind-picks : (d : ℕ) (a b : ℤ) (p : Point) {bs : List Box} {qs : List Point} → 0 < d → Each d bs qs
     → All (λ v. along a b v <ℤ pos 0) (map (from 1 p) (cornersOf (highest a b) bs)) → All (λ v. along a b v <ℤ pos 0) (map (from d p) qs)
@@ -138,11 +140,11 @@ one-of-all {P} c bs h = go c
     go NorthWest = all-right (cornersOf SouthWest bs ++ cornersOf SouthEast bs ++ cornersOf NorthEast bs) (cornersOf NorthWest bs) h
 
 -- the farthest corners alone are enough
-pub outside-by-farthest : {bs : List Box} (p : Point) (a b : ℤ) → All (λ v. along a b v <ℤ pos 0) (map (from 1 p) (cornersOf (highest a b) bs)) → Means bs p outside
+pub outside-by-farthest : {bs : List Box} (p : Point) (a b : ℤ) → All (λ v. along a b v <ℤ pos 0) (map (from 1 p) (cornersOf (highest a b) bs)) → Means bs p Outside
 outside-by-farthest p a b h k =
     separated-not-balanced (record { a = a; b = b; behind = behind-picks (k .denominator) a b p (k .positive) (k .in-boxes) h })
 
-pub outside-by-corners : {bs : List Box} (p : Point) → Separated (map (from 1 p) (allCorners bs)) → Means bs p outside
+pub outside-by-corners : {bs : List Box} (p : Point) → Separated (map (from 1 p) (allCorners bs)) → Means bs p Outside
 outside-by-corners {bs} p s =
     outside-by-farthest p (s .a) (s .b)
     (all-map (from 1 p) (one-of-all (highest (s .a) (s .b)) bs (all-unmap (from 1 p) (allCorners bs) (s .behind))))

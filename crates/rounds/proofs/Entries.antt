@@ -1,4 +1,4 @@
--- Entries of box, corner and weight whose weighted sum of (corner − plug) is zero (T8). The pick that they choose has the plug in its hull, and there is such a pick:
+-- Entries of box, corner and weight whose weighted sum of (corner − plug) is zero. The pick that they choose has the plug in its hull, and there is such a pick:
 -- its denominator is the product of the positive weights of the boxes. Assumes nothing.
 use Prim.Native.Nat.{ℕ, zero, suc, _+_, _*_, _<_, _≤_}
 use mathlib.Core.Bool.{cond, Bool, true, false}
@@ -19,9 +19,11 @@ use Rattle.plane.specs.Points.{Point}
 use Rattle.plane.specs.Members.{All, none, _&_, _∈_, here, there}
 use Rattle.plane.specs.Vectors.{from, total, weighted, Balanced}
 use Rattle.plane.proofs.Lists.{in-append}
-use Rattle.rounds.specs.Boxes.{Box, Ordered, cornerOf, cornersOf, allCorners}
-use Rattle.rounds.specs.Picks.{Within, Each, Pick}
-use Rattle.rounds.specs.Reasons.{Entry, cornerAt, SecondReason, weightAt, sumAt, Chosen, mean, south-west}
+use Rattle.rounds.specs.Boxes.{Ordered, cornerOf, cornersOf, allCorners}
+use Rattle.rounds.specs.declared.Box.{Box}
+use Rattle.rounds.specs.Picks.{InBox, Each, Pick}
+use Rattle.rounds.specs.Reasons.{cornerAt, SecondReason, weightAt, sumAt, Chosen, mean, south-west}
+use Rattle.rounds.specs.declared.Entry.{Entry}
 use Rattle.rounds.specs.Words.{SecondSucceeds}
 use Rattle.rounds.specs.declared.Corner.{Corner}
 use Rattle.rounds.specs.declared.Corner.the-variants.{SouthWest, SouthEast, NorthEast, NorthWest}
@@ -41,7 +43,7 @@ boxesSum f es n (b ∷ bs) = sumAt f es n b +ℤ boxesSum f es (suc n) bs
 -- one entry's part, over the boxes
 abbrev oneSum : (Point → ℤ) → Entry → ℕ → List Box → ℤ
 oneSum f e n [] = pos 0
-oneSum f e n (b ∷ bs) = cond (eqb n (e .box)) (pos (e .weight) *ℤ f (cornerOf (e .corner) b)) (pos 0) +ℤ oneSum f e (suc n) bs
+oneSum f e n (b ∷ bs) = cond (eqb n (e .number)) (pos (e .weight) *ℤ f (cornerOf (e .corner) b)) (pos 0) +ℤ oneSum f e (suc n) bs
 
 boxesSum-nil : (f : Point → ℤ) (n : ℕ) (bs : List Box) → boxesSum f [] n bs ≡ pos 0
 boxesSum-nil f n [] = refl
@@ -51,7 +53,7 @@ boxesSum-cons : (f : Point → ℤ) (e : Entry) (es : List Entry) (n : ℕ) (bs 
 boxesSum-cons f e es n [] = refl
 boxesSum-cons f e es n (b ∷ bs) =
     lin 0 5 (λ x s y t r. r ≐ y ⊕ t ⟹ x ⊕ s ⊕ r ≐ (x ⊕ y) ⊕ (s ⊕ t)) (omega arith)
-    (cond (eqb n (e .box)) (pos (e .weight) *ℤ f (cornerOf (e .corner) b)) (pos 0)) (sumAt f es n b) (oneSum f e (suc n) bs) (boxesSum f es (suc n) bs) _
+    (cond (eqb n (e .number)) (pos (e .weight) *ℤ f (cornerOf (e .corner) b)) (pos 0)) (sumAt f es n b) (oneSum f e (suc n) bs) (boxesSum f es (suc n) bs) _
     (boxesSum-cons f e es (suc n) bs)
 
 -- what the test of two numbers says
@@ -67,26 +69,26 @@ test m n = go (eqb m n) (λ t. eqb→eq m n t) (λ e. subst (λ k. T (eqb m k)) 
     go false f g = unequal g
 
 -- a number that the list has passed
-oneSum-passed : (f : Point → ℤ) (e : Entry) (n : ℕ) (bs : List Box) → e .box < n → oneSum f e n bs ≡ pos 0
+oneSum-passed : (f : Point → ℤ) (e : Entry) (n : ℕ) (bs : List Box) → e .number < n → oneSum f e n bs ≡ pos 0
 oneSum-passed f e n [] h = refl
-oneSum-passed f e n (b ∷ bs) h = go (test n (e .box)) (oneSum-passed f e (suc n) bs (omega arith))
+oneSum-passed f e n (b ∷ bs) h = go (test n (e .number)) (oneSum-passed f e (suc n) bs (omega arith))
   where
-    go : {c : Bool} → Test n (e .box) c → oneSum f e (suc n) bs ≡ pos 0 → cond c (pos (e .weight) *ℤ f (cornerOf (e .corner) b)) (pos 0) +ℤ oneSum f e (suc n) bs ≡ pos 0
+    go : {c : Bool} → Test n (e .number) c → oneSum f e (suc n) bs ≡ pos 0 → cond c (pos (e .weight) *ℤ f (cornerOf (e .corner) b)) (pos 0) +ℤ oneSum f e (suc n) bs ≡ pos 0
     go (equal g) r = absurd (omega arith)
     go (unequal g) r = lin 0 1 (λ s. s ≐ # 0 ⟹ # 0 ⊕ s ≐ # 0) (omega arith) (oneSum f e (suc n) bs) r
 
-oneSum-is : (f : Point → ℤ) (e : Entry) (n : ℕ) (bs : List Box) → n ≤ e .box → e .box < n + length bs → oneSum f e n bs ≡ pos (e .weight) *ℤ f (cornerAt n bs e)
+oneSum-is : (f : Point → ℤ) (e : Entry) (n : ℕ) (bs : List Box) → n ≤ e .number → e .number < n + length bs → oneSum f e n bs ≡ pos (e .weight) *ℤ f (cornerAt n bs e)
 oneSum-is f e n [] h k = absurd (omega arith)
-oneSum-is f e n (b ∷ bs) h k = go (test n (e .box)) (λ ne. oneSum-is f e (suc n) bs (omega arith) (omega arith))
+oneSum-is f e n (b ∷ bs) h k = go (test n (e .number)) (λ ne. oneSum-is f e (suc n) bs (omega arith) (omega arith))
   where
-    go : {c : Bool} → Test n (e .box) c → ((n ≡ e .box → ⊥) → oneSum f e (suc n) bs ≡ pos (e .weight) *ℤ f (cornerAt (suc n) bs e))
+    go : {c : Bool} → Test n (e .number) c → ((n ≡ e .number → ⊥) → oneSum f e (suc n) bs ≡ pos (e .weight) *ℤ f (cornerAt (suc n) bs e))
         → cond c (pos (e .weight) *ℤ f (cornerOf (e .corner) b)) (pos 0) +ℤ oneSum f e (suc n) bs ≡ pos (e .weight) *ℤ f (cond c (cornerOf (e .corner) b) (cornerAt (suc n) bs e))
     go (equal g) r =
         lin 0 2 (λ x s. s ≐ # 0 ⟹ x ⊕ s ≐ x) (omega arith) (pos (e .weight) *ℤ f (cornerOf (e .corner) b)) (oneSum f e (suc n) bs)
         (oneSum-passed f e (suc n) bs (omega arith))
     go (unequal g) r = lin 0 2 (λ x s. s ≐ x ⟹ # 0 ⊕ s ≐ x) (omega arith) (pos (e .weight) *ℤ f (cornerAt (suc n) bs e)) (oneSum f e (suc n) bs) (r g)
 
-swapped : (f : Point → ℤ) (bs : List Box) {es : List Entry} → All (λ e. (1 ≤ e .box) × (e .box ≤ length bs)) es
+swapped : (f : Point → ℤ) (bs : List Box) {es : List Entry} → All (λ e. (1 ≤ e .number) × (e .number ≤ length bs)) es
     → boxesSum f es 1 bs ≡ weighted f (map (λ e. e .weight) es) (map (cornerAt 1 bs) es)
 swapped f bs none = boxesSum-nil f 1 bs
 swapped f bs (_&_ {x = e} {l = es} h hs) = boxesSum-cons f e es 1 bs ∙ ap₂ _+ℤ_ (oneSum-is f e 1 bs (h .0) (omega (arith, h .1))) (swapped f bs hs)
@@ -95,7 +97,7 @@ swapped f bs (_&_ {x = e} {l = es} h hs) = boxesSum-cons f e es 1 bs ∙ ap₂ _
 
 sumAt-less : (f : Point → ℤ) (k : ℤ) (es : List Entry) (n : ℕ) (b : Box) → sumAt (λ c. f c -ℤ pos 1 *ℤ k) es n b ≡ sumAt f es n b -ℤ pos (weightAt es n) *ℤ k
 sumAt-less f k [] n b = ring 0 1 (λ k. # 0 ≐ # 0 ⊖ # 0 ⊗ k) tt k
-sumAt-less f k (e ∷ es) n b = go (eqb n (e .box)) (sumAt-less f k es n b)
+sumAt-less f k (e ∷ es) n b = go (eqb n (e .number)) (sumAt-less f k es n b)
   where
     x : ℤ
     x = f (cornerOf (e .corner) b)
@@ -110,7 +112,7 @@ sumAt-less f k (e ∷ es) n b = go (eqb n (e .box)) (sumAt-less f k es n b)
 
 sumAt-one : (es : List Entry) (n : ℕ) (b : Box) → sumAt (λ c. pos 1) es n b ≡ pos (weightAt es n)
 sumAt-one [] n b = refl
-sumAt-one (e ∷ es) n b = go (eqb n (e .box)) (sumAt-one es n b)
+sumAt-one (e ∷ es) n b = go (eqb n (e .number)) (sumAt-one es n b)
   where
     go : (c : Bool) → sumAt (λ c. pos 1) es n b ≡ pos (weightAt es n) → cond c (pos (e .weight) *ℤ pos 1) (pos 0) +ℤ sumAt (λ c. pos 1) es n b ≡ pos (cond c (e .weight) 0 + weightAt es n)
     go true r = lin 0 3 (λ w s v. s ≐ v ⟹ w ⊗ # 1 ⊕ s ≐ w ⊕ v) (omega arith) (pos (e .weight)) (sumAt (λ c. pos 1) es n b) (pos (weightAt es n)) r
@@ -129,7 +131,7 @@ weighted-one (w ∷ ws) (v ∷ vs) h = lin 0 3 (λ w s t. s ≐ t ⟹ w ⊗ # 1 
 
 weightless : (f : Point → ℤ) (es : List Entry) (n : ℕ) (b : Box) → weightAt es n ≡ 0 → sumAt f es n b ≡ pos 0
 weightless f [] n b h = refl
-weightless f (e ∷ es) n b h = go (eqb n (e .box)) h (λ k. weightless f es n b k)
+weightless f (e ∷ es) n b h = go (eqb n (e .number)) h (λ k. weightless f es n b k)
   where
     go : (c : Bool) → cond c (e .weight) 0 + weightAt es n ≡ 0 → (weightAt es n ≡ 0 → sumAt f es n b ≡ pos 0)
         → cond c (pos (e .weight) *ℤ f (cornerOf (e .corner) b)) (pos 0) +ℤ sumAt f es n b ≡ pos 0
@@ -213,7 +215,7 @@ chosen-balanced {bs} p es d qs r c =
 sumAt-bounds : (f : Point → ℤ) (l h : ℤ) (b : Box) → ((c : Corner) → (l ≤ℤ f (cornerOf c b)) × (f (cornerOf c b) ≤ℤ h)) → (es : List Entry) (n : ℕ)
     → (pos (weightAt es n) *ℤ l ≤ᶻ sumAt f es n b) × (sumAt f es n b ≤ᶻ pos (weightAt es n) *ℤ h)
 sumAt-bounds f l h b g [] n = (lin 0 1 (λ l. # 0 ⊗ l ≼ # 0) (omega arith) l, lin 0 1 (λ l. # 0 ≼ # 0 ⊗ l) (omega arith) h)
-sumAt-bounds f l h b g (e ∷ es) n = go (eqb n (e .box)) (sumAt-bounds f l h b g es n)
+sumAt-bounds f l h b g (e ∷ es) n = go (eqb n (e .number)) (sumAt-bounds f l h b g es n)
   where
     x : ℤ
     x = f (cornerOf (e .corner) b)
@@ -248,7 +250,7 @@ corner-north b o NorthWest = (o .upward, ≤ℤ-refl _)
 abbrev scale : ℕ → Point → Point
 scale m q = record { east = pos m *ℤ q .east; north = pos m *ℤ q .north }
 
-scale-within : (m d : ℕ) {b : Box} {q : Point} → Within d b q → Within (m * d) b (scale m q)
+scale-within : (m d : ℕ) {b : Box} {q : Point} → InBox d b q → InBox (m * d) b (scale m q)
 scale-within m d {b} {q} w =
     record {
       from-west = under (b .west) (q .east) (w .from-west);
@@ -306,7 +308,7 @@ denominator-pos es n (b ∷ bs) = go (weightAt es n) (denominator-pos es (suc n)
 
 -- the first box's point, for its weight w
 module _ (es : List Entry) (n : ℕ) (b : Box) (o : Ordered b) (d : ℕ) where
-  choice-within : (w : ℕ) → weightAt es n ≡ w → Within (atLeastOne w * d) b (choice d es n b w)
+  choice-within : (w : ℕ) → weightAt es n ≡ w → InBox (atLeastOne w * d) b (choice d es n b w)
   choice-within zero e =
       record {
         from-west = under (b .west);
@@ -377,35 +379,35 @@ second-succeeds p os es r = chosen-balanced p es (meanPick os es .denominator) (
 -- ---- a corner of the list is named by an entry
 
 -- the number and the corner name of a corner of the list, whose first box has the number n
-pub record Place (n : ℕ) (bs : List Box) (q : Point) : Type 0 where
+pub record NamedCorner (n : ℕ) (bs : List Box) (q : Point) : Type 0 where
   pub box : ℕ
   pub corner : Corner
   pub from-n : n ≤ box
   pub below : box < n + length bs
-  pub is : (w : ℕ) → cornerAt n bs (record { box = box; corner = corner; weight = w }) ≡ q
+  pub is : (w : ℕ) → cornerAt n bs (record { number = box; corner = corner; weight = w }) ≡ q
 
-place : (c : Corner) (n : ℕ) (bs : List Box) {q : Point} → q ∈ cornersOf c bs → Place n bs q
-place c n (b ∷ bs) {q} (here e) = record { box = n; corner = c; from-n = omega arith; below = omega arith; is = λ w. at (test n n) (cornerAt (suc n) bs (record { box = n; corner = c; weight = w })) }
+named-in : (c : Corner) (n : ℕ) (bs : List Box) {q : Point} → q ∈ cornersOf c bs → NamedCorner n bs q
+named-in c n (b ∷ bs) {q} (here e) = record { box = n; corner = c; from-n = omega arith; below = omega arith; is = λ w. at (test n n) (cornerAt (suc n) bs (record { number = n; corner = c; weight = w })) }
   where
     at : {t : Bool} → Test n n t → (r : Point) → cond t (cornerOf c b) r ≡ q
     at (equal g) r = sym e
     at (unequal g) r = absurd (g refl)
-place c n (b ∷ bs) {q} (there m) = go (place c (suc n) bs m)
+named-in c n (b ∷ bs) {q} (there m) = go (named-in c (suc n) bs m)
   where
-    go : Place (suc n) bs q → Place n (b ∷ bs) q
+    go : NamedCorner (suc n) bs q → NamedCorner n (b ∷ bs) q
     go r = record { box = r .box; corner = r .corner; from-n = omega arith; below = omega arith; is = λ w. at w (test n (r .box)) }
       where
         at : (w : ℕ) {t : Bool} → Test n (r .box) t
-            → cond t (cornerOf (r .corner) b) (cornerAt (suc n) bs (record { box = r .box; corner = r .corner; weight = w })) ≡ q
+            → cond t (cornerOf (r .corner) b) (cornerAt (suc n) bs (record { number = r .box; corner = r .corner; weight = w })) ≡ q
         at w (equal g) = absurd (omega arith)
         at w (unequal g) = r .is w
 
-pub place-of : (bs : List Box) {q : Point} → q ∈ allCorners bs → Place 1 bs q
-place-of bs m =
+pub named-corner : (bs : List Box) {q : Point} → q ∈ allCorners bs → NamedCorner 1 bs q
+named-corner bs m =
     ⊎-elim
     (λ k. ⊎-elim
-    (λ l. ⊎-elim (place SouthWest 1 bs) (place SouthEast 1 bs) (in-append (cornersOf SouthWest bs) (cornersOf SouthEast bs) l))
-    (place NorthEast 1 bs)
+    (λ l. ⊎-elim (named-in SouthWest 1 bs) (named-in SouthEast 1 bs) (in-append (cornersOf SouthWest bs) (cornersOf SouthEast bs) l))
+    (named-in NorthEast 1 bs)
     (in-append (cornersOf SouthWest bs ++ cornersOf SouthEast bs) (cornersOf NorthEast bs) k))
-    (place NorthWest 1 bs)
+    (named-in NorthWest 1 bs)
     (in-append (cornersOf SouthWest bs ++ cornersOf SouthEast bs ++ cornersOf NorthEast bs) (cornersOf NorthWest bs) m)

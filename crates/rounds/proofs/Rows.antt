@@ -9,13 +9,11 @@ use Rattle.plane.specs.Points.{Point, point}
 use Rattle.plane.specs.Members.{All}
 use Rattle.plane.proofs.Lists.{index-of-all}
 use Rattle.integers.proofs.Parts.{drop-two, drop-four}
-use Rattle.rounds.specs.Boxes.{Box, box, boxesOf, plugsOf}
+use Rattle.rounds.specs.Boxes.{box, boxesOf, boxAt, plugsOf}
+use Rattle.rounds.specs.declared.Box.{Box}
 use Rattle.rounds.specs.Refusals.{Fault, _orElse_, boxFault, eachBoxFault, plugFault, eachPlugFault}
 
--- the box whose edges start at i, and the plug whose coordinates do
-abbrev pub boxAt : List ℤ → ℕ → Box
-boxAt xs i = box (getD xs i (pos 0)) (getD xs (i + 1) (pos 0)) (getD xs (i + 2) (pos 0)) (getD xs (i + 3) (pos 0))
-
+-- the plug whose coordinates start at i
 abbrev pub plugAt : List ℤ → ℕ → Point
 plugAt xs i = point (getD xs i (pos 0)) (getD xs (i + 1) (pos 0))
 

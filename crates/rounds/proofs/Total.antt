@@ -11,24 +11,28 @@ use Rattle.plane.specs.Vectors.{from, total, weighted, Supported, Balanced, Sep
 use Rattle.plane.proofs.Lists.{all-of}
 use Rattle.plane.proofs.Alternative.{alternative, separated-supported}
 use Rattle.plane.proofs.Supporting.{supported-dec}
-use Rattle.rounds.specs.Boxes.{Box, Ordered, cornersOf, allCorners}
+use Rattle.rounds.specs.Boxes.{Ordered, cornersOf, allCorners}
+use Rattle.rounds.specs.declared.Box.{Box}
 use Rattle.rounds.specs.Picks.{Pick}
-use Rattle.rounds.specs.Reasons.{Entry, cornerAt}
-use Rattle.rounds.specs.Words.{Word, inside, outside, undecided, Means, SecondSucceeds, wordBy, wordOf}
+use Rattle.rounds.specs.Reasons.{cornerAt}
+use Rattle.rounds.specs.declared.Entry.{Entry}
+use Rattle.rounds.specs.Words.{Means, SecondSucceeds, wordBy, wordOf}
+use Rattle.rounds.specs.declared.Word.{Word}
+use Rattle.rounds.specs.declared.Word.the-variants.{Inside, Outside, Undecided}
 use Rattle.rounds.specs.declared.Corner.{Corner}
 use Rattle.rounds.specs.declared.Corner.the-variants.{SouthWest, SouthEast, NorthEast, NorthWest}
 use Rattle.rounds.proofs.Corners.{cornerPick, inside-by-corners, outside-by-corners}
-use Rattle.rounds.proofs.Entries.{meanPick, second-succeeds, Place, place-of}
+use Rattle.rounds.proofs.Entries.{meanPick, second-succeeds, NamedCorner, named-corner}
 
 -- ---- corners that balance, as entries
 
 record Listed (bs : List Box) (ws : List ℕ) (l : List Point) : Type 0 where
   es : List Entry
-  named : All (λ e. (1 ≤ e .box) × (e .box ≤ length bs)) es
+  named : All (λ e. (1 ≤ e .number) × (e .number ≤ length bs)) es
   weights : map (λ e. e .weight) es ≡ ws
   points : (p : Point) → map (λ e. from 1 p (cornerAt 1 bs e)) es ≡ map (from 1 p) l
 
-list-entries : (bs : List Box) (ws : List ℕ) {l : List Point} → All (Place 1 bs) l → length ws ≡ length l → Listed bs ws l
+list-entries : (bs : List Box) (ws : List ℕ) {l : List Point} → All (NamedCorner 1 bs) l → length ws ≡ length l → Listed bs ws l
 list-entries bs [] none e = record { es = []; named = none; weights = refl; points = λ p. refl }
 list-entries bs [] (h & hs) e = absurd (omega arith)
 list-entries bs (w ∷ ws) none e = absurd (omega arith)
@@ -37,14 +41,14 @@ list-entries bs (w ∷ ws) (_&_ {x = q} {l = l} h hs) e = go (list-entries bs ws
     go : Listed bs ws l → Listed bs (w ∷ ws) (q ∷ l)
     go r =
         record {
-          es = record { box = h .box; corner = h .corner; weight = w } ∷ r .es;
+          es = record { number = h .box; corner = h .corner; weight = w } ∷ r .es;
           named = (h .from-n, omega (arith, h .below)) & r .named;
           weights = ap (λ x. w ∷ x) (r .weights);
           points = λ p. ap₂ (λ x y. x ∷ y) (ap (from 1 p) (h .is w)) (r .points p);
         }
 
 pub corners-second : {bs : List Box} (p : Point) (os : All Ordered bs) → Balanced (map (from 1 p) (allCorners bs)) → (k : Pick bs) × SecondSucceeds p k
-corners-second {bs} p os h = go (list-entries bs (h .weights) (all-of (allCorners bs) (λ q m. place-of bs m)) (h .one-each ∙ length-map (allCorners bs) (from 1 p)))
+corners-second {bs} p os h = go (list-entries bs (h .weights) (all-of (allCorners bs) (λ q m. named-corner bs m)) (h .one-each ∙ length-map (allCorners bs) (from 1 p)))
   where
     go : Listed bs (h .weights) (allCorners bs) → (k : Pick bs) × SecondSucceeds p k
     go r = (
@@ -63,25 +67,25 @@ corners-second {bs} p os h = go (list-entries bs (h .weights) (all-of (allCorner
 pub second-iff : {bs : List Box} (p : Point) → All Ordered bs → ((k : Pick bs) × SecondSucceeds p k) ↔ Balanced (map (from 1 p) (allCorners bs))
 second-iff {bs} p os = (λ h. ⊎-elim (λ b. b) (λ s. absurd (outside-by-corners p s (h .0) (h .1))) (alternative (map (from 1 p) (allCorners bs))), corners-second p os)
 
-pub outside-iff : {bs : List Box} (p : Point) → All Ordered bs → Means bs p outside ↔ (Balanced (map (from 1 p) (allCorners bs)) → ⊥)
+pub outside-iff : {bs : List Box} (p : Point) → All Ordered bs → Means bs p Outside ↔ (Balanced (map (from 1 p) (allCorners bs)) → ⊥)
 outside-iff p os = (λ h b. let r = second-iff p os .1 b in h (r .0) (r .1), λ n k h. n (second-iff p os .0 (k, h)))
 
 -- ---- inside and outside exclude each other, and so the word is one
 
-pub not-both : {bs : List Box} (p : Point) → All Ordered bs → Means bs p inside → Means bs p outside → ⊥
+pub not-both : {bs : List Box} (p : Point) → All Ordered bs → Means bs p Inside → Means bs p Outside → ⊥
 not-both {bs} p os i o =
     ⊎-elim (λ h. o (cornerPick os SouthWest) h) (λ h. i (cornerPick os SouthWest) (separated-supported _ h)) (alternative (map (from 1 p) (cornersOf SouthWest bs)))
 
 pub one-word : {bs : List Box} (p : Point) → All Ordered bs → (x y : Word) → Means bs p x → Means bs p y → x ≡ y
-one-word p os inside inside h k = refl
-one-word p os inside outside h k = absurd (not-both p os h k)
-one-word p os inside undecided h k = absurd (h (k .0 .0) (k .0 .1))
-one-word p os outside inside h k = absurd (not-both p os k h)
-one-word p os outside outside h k = refl
-one-word p os outside undecided h k = absurd (h (k .1 .0) (k .1 .1))
-one-word p os undecided inside h k = absurd (k (h .0 .0) (h .0 .1))
-one-word p os undecided outside h k = absurd (k (h .1 .0) (h .1 .1))
-one-word p os undecided undecided h k = refl
+one-word p os Inside Inside h k = refl
+one-word p os Inside Outside h k = absurd (not-both p os h k)
+one-word p os Inside Undecided h k = absurd (h (k .0 .0) (k .0 .1))
+one-word p os Outside Inside h k = absurd (not-both p os k h)
+one-word p os Outside Outside h k = refl
+one-word p os Outside Undecided h k = absurd (h (k .1 .0) (k .1 .1))
+one-word p os Undecided Inside h k = absurd (k (h .0 .0) (h .0 .1))
+one-word p os Undecided Outside h k = absurd (k (h .1 .0) (h .1 .1))
+one-word p os Undecided Undecided h k = refl
 
 -- ---- the word
 
@@ -92,7 +96,7 @@ word-means bs p os = go (alternative (map (from 1 p) (allCorners bs))) (at South
     at : (c : Corner) → Dec (Supported (map (from 1 p) (cornersOf c bs)))
     at c = supported-dec (map (from 1 p) (cornersOf c bs))
 
-    undecided-at : (c : Corner) → Balanced (map (from 1 p) (allCorners bs)) → Supported (map (from 1 p) (cornersOf c bs)) → Means bs p undecided
+    undecided-at : (c : Corner) → Balanced (map (from 1 p) (allCorners bs)) → Supported (map (from 1 p) (cornersOf c bs)) → Means bs p Undecided
     undecided-at c h k = ((cornerPick os c, k), corners-second p os h)
 
     go : (b : Balanced (map (from 1 p) (allCorners bs)) ⊎ Separated (map (from 1 p) (allCorners bs))) (sw : Dec (Supported (map (from 1 p) (cornersOf SouthWest bs))))

@@ -1,20 +1,18 @@
 -- Boxes, their corners, and lists of numbers as boxes and plugs. Definitions only.
+use Prim.Native.Nat.{ℕ, _+_, _/_, _%_, _≤_}
+use mathlib.Core.Path.{_≡_}
 use mathlib.Core.List.{List, [], _∷_, _++_, map}
-use lib.IntN.{ℤ}
+use lib.IntN.{ℤ, pos}
+use lib.ListN.{length, getD}
 use lib.Signed.{_≤ℤ_}
 use Rattle.integers.specs.Upto.{Upto}
-use Rattle.plane.specs.Points.{Point, point}
+use Rattle.plane.specs.Members.{All}
+use Rattle.plane.specs.Points.{Point, point, span}
+use Rattle.rounds.specs.declared.Box.{Box}
 use Rattle.rounds.specs.declared.Corner.{Corner}
 use Rattle.rounds.specs.declared.Corner.the-variants.{SouthWest, SouthEast, NorthEast, NorthWest}
 
--- document 01's box: four edges in whole metres
-pub record Box : Type 0 where
-  pub west : ℤ
-  pub south : ℤ
-  pub east : ℤ
-  pub north : ℤ
-
--- the box of four edges, in document 01's order
+-- document 01's box of four edges in whole metres, in its order
 abbrev pub box : ℤ → ℤ → ℤ → ℤ → Box
 box w s e n = record { west = w; south = s; east = e; north = n }
 
@@ -25,6 +23,10 @@ boxesOf (w ∷ []) = []
 boxesOf (w ∷ s ∷ []) = []
 boxesOf (w ∷ s ∷ e ∷ []) = []
 boxesOf (w ∷ s ∷ e ∷ n ∷ rest) = box w s e n ∷ boxesOf rest
+
+-- the box whose four edges start at an index of a flat list; 0 stands for what is past its end
+abbrev pub boxAt : List ℤ → ℕ → Box
+boxAt l i = box (getD l i (pos 0)) (getD l (i + 1) (pos 0)) (getD l (i + 2) (pos 0)) (getD l (i + 3) (pos 0))
 
 -- the plugs of a flat list, two numbers each, east then north; what is left over at the end is no plug
 abbrev pub plugsOf : List ℤ → List Point
@@ -39,10 +41,10 @@ pub record Ordered (b : Box) : Type 0 where
 
 -- every edge is from −16,000 to 16,000
 pub record BoxInSpan (b : Box) : Type 0 where
-  pub west : Upto 16000 (b .west)
-  pub south : Upto 16000 (b .south)
-  pub east : Upto 16000 (b .east)
-  pub north : Upto 16000 (b .north)
+  pub west : Upto span (b .west)
+  pub south : Upto span (b .south)
+  pub east : Upto span (b .east)
+  pub north : Upto span (b .north)
 
 -- the corner of a box that a corner name means
 abbrev pub cornerOf : Corner → Box → Point
@@ -58,3 +60,16 @@ cornersOf c bs = map (cornerOf c) bs
 -- all four corners of all boxes: the points of the outer polygon
 abbrev pub allCorners : List Box → List Point
 allCorners bs = cornersOf SouthWest bs ++ cornersOf SouthEast bs ++ cornersOf NorthEast bs ++ cornersOf NorthWest bs
+
+-- the most boxes that a round has
+abbrev pub mostBoxes : ℕ
+mostBoxes = 1024
+
+-- a flat list of boxes that polygons and verdicts are worked out of: whole boxes, at least one and at most 1,024, each with its edges in
+-- order and in the span
+pub record BoxList (l : List ℤ) : Type 0 where
+  pub whole : length l % 4 ≡ 0
+  pub some : 4 ≤ length l
+  pub few : length l / 4 ≤ mostBoxes
+  pub ordered : All Ordered (boxesOf l)
+  pub in-span : All BoxInSpan (boxesOf l)

@@ -4,10 +4,10 @@ use mathlib.Core.List.{List, [], _∷_}
 use lib.IntN.{pos, _*ℤ_}
 use lib.Signed.{_≤ℤ_}
 use Rattle.plane.specs.Points.{Point}
-use Rattle.rounds.specs.Boxes.{Box}
+use Rattle.rounds.specs.declared.Box.{Box}
 
 -- the point whose coordinates are q's over d lies in the box, edges included
-pub record Within (d : ℕ) (b : Box) (q : Point) : Type 0 where
+pub record InBox (d : ℕ) (b : Box) (q : Point) : Type 0 where
   pub from-west : (pos d *ℤ b .west) ≤ℤ (q .east)
   pub to-east : (q .east) ≤ℤ (pos d *ℤ b .east)
   pub from-south : (pos d *ℤ b .south) ≤ℤ (q .north)
@@ -17,7 +17,7 @@ pub record Within (d : ℕ) (b : Box) (q : Point) : Type 0 where
 infixr 35 _&_
 pub data Each (d : ℕ) : List Box → List Point → Type 0 where
   none : Each d [] []
-  _&_ : {b : Box} {bs : List Box} {q : Point} {qs : List Point} → Within d b q → Each d bs qs → Each d (b ∷ bs) (q ∷ qs)
+  _&_ : {b : Box} {bs : List Box} {q : Point} {qs : List Point} → InBox d b q → Each d bs qs → Each d (b ∷ bs) (q ∷ qs)
 
 -- document 01's pick: one point in each box, as fractions over some positive common denominator
 pub record Pick (bs : List Box) : Type 0 where

@@ -1,97 +1,86 @@
--- Document 01's table "Turned back": each cause with its number and place, and the order of the causes for each call. Definitions only.
+-- Document 01's table "Turned back": each cause with its number, and the order of the causes for each call. Definitions only.
 use Prim.Native.Nat.{ℕ, _+_, _*_, _/_, _%_, min}
 use mathlib.Core.Bool.{Bool, true, false, not, _||_}
 use mathlib.Core.List.{List, [], _∷_}
-use lib.IntN.{ℤ, pos, negsuc}
+use lib.IntN.{ℤ, pos, negℤ}
 use lib.Signed.{ltZ}
 use lib.Dec.{eqb, ltb}
 use lib.ListN.{length}
-use Rattle.plane.specs.Points.{Point}
-use Rattle.rounds.specs.Boxes.{Box, boxesOf, plugsOf}
+use Rattle.plane.specs.Points.{Point, span}
+use Rattle.rounds.specs.Boxes.{boxesOf, plugsOf, mostBoxes}
+use Rattle.rounds.specs.declared.Box.{Box}
+use Rattle.rounds.specs.declared.Cause.{Cause}
+use Rattle.rounds.specs.declared.Cause.the-variants as Cause
 use Rattle.rounds.specs.declared.Refusal.{Refusal}
 use Rattle.rounds.specs.declared.Checked.{Checked}
 use Rattle.rounds.specs.declared.Checked.the-variants.{Accepted, Refused}
 
--- what a call is turned back by: nothing, or a cause's number and the place returned
+-- ---- the causes, row by row
+
+-- the number of a cause
+abbrev pub numberOf : Cause → ℕ
+numberOf Cause.ListLength = 1
+numberOf Cause.NoBox = 2
+numberOf Cause.TooManyBoxes = 3
+numberOf Cause.EdgeBeyond = 4
+numberOf Cause.EdgesReversed = 5
+numberOf Cause.PlugBeyond = 6
+numberOf Cause.BufferShort = 7
+numberOf Cause.UnknownMark = 8
+numberOf Cause.CutShort = 9
+numberOf Cause.BoxAfterPlug = 10
+numberOf Cause.ByteAfterEnd = 11
+numberOf Cause.InputTooLong = 12
+
+-- what a call is turned back by: nothing, or a cause and the place returned
 pub data Fault : Type 0 where
   none : Fault
-  fault : ℕ → ℕ → Fault
+  fault : Cause → ℕ → Fault
 
--- the paper's number and place for a refusal, and for each case of a check's answer
+-- the fault that a refusal returns, and each case of a check's answer
 abbrev pub refusalFault : Refusal → Fault
-refusalFault r = fault (r .number) (r .place)
+refusalFault r = fault (r .cause) (r .place)
 
 abbrev pub faultOf : Checked → Fault
 faultOf Accepted = none
 faultOf (Refused r) = refusalFault r
 
--- ---- the causes
+-- the place of cause 7: the length needed, or the largest 64-bit number if that is less
+abbrev pub neededPlace : ℕ → ℕ
+neededPlace needed = min needed 18446744073709551615
 
-abbrev pub listLength : ℕ → Fault
-listLength length = fault 1 length
-
-abbrev pub noBox : Fault
-noBox = fault 2 0
-
-abbrev pub tooManyBoxes : ℕ → Fault
-tooManyBoxes count = fault 3 count
-
-abbrev pub edgeBeyond : ℕ → Fault
-edgeBeyond box = fault 4 box
-
-abbrev pub edgesReversed : ℕ → Fault
-edgesReversed box = fault 5 box
-
-abbrev pub plugBeyond : ℕ → Fault
-plugBeyond plug = fault 6 plug
-
--- the length needed, or the largest 64-bit number if that is less
-abbrev pub bufferShort : ℕ → Fault
-bufferShort needed = fault 7 (min needed 18446744073709551615)
-
-abbrev pub unknownMark : ℕ → Fault
-unknownMark offset = fault 8 offset
-
-abbrev pub cutShort : ℕ → Fault
-cutShort offset = fault 9 offset
-
-abbrev pub boxAfterPlug : ℕ → Fault
-boxAfterPlug offset = fault 10 offset
-
-abbrev pub byteAfterEnd : ℕ → Fault
-byteAfterEnd offset = fault 11 offset
-
-abbrev pub inputTooLong : Fault
-inputTooLong = fault 12 65536
+-- the most bytes of the printing program's input, which is the place of cause 12
+abbrev pub mostInput : ℕ
+mostInput = 65536
 
 -- ---- the order
 
--- the fault, under its condition
-abbrev pub when : Bool → Fault → Fault
-when true f = f
-when false f = none
+-- the cause with its place, under its condition
+abbrev pub when : Bool → Cause → ℕ → Fault
+when true cause place = fault cause place
+when false cause place = none
 
 -- the first of two that there is
 infixr 30 _orElse_
 abbrev pub _orElse_ : Fault → Fault → Fault
 none orElse g = g
-fault n p orElse g = fault n p
+fault c p orElse g = fault c p
 
 -- a coordinate beyond ±16,000
 unfoldable pub beyond : ℤ → Bool
-beyond x = ltZ x (negsuc 15999) || ltZ (pos 16000) x
+beyond x = ltZ x (negℤ (pos span)) || ltZ (pos span) x
 
--- an edge of box number k is beyond ±16,000
-unfoldable pub farFault : ℕ → Box → Fault
-farFault k b = when (beyond (b .west) || (beyond (b .south) || (beyond (b .east) || beyond (b .north)))) (edgeBeyond k)
+-- an edge of a box is beyond ±16,000
+unfoldable pub edgeBeyond : Box → Bool
+edgeBeyond b = beyond (b .west) || (beyond (b .south) || (beyond (b .east) || beyond (b .north)))
 
--- west over east, or south over north, in box number k
-unfoldable pub reversedFault : ℕ → Box → Fault
-reversedFault k b = when (ltZ (b .east) (b .west) || ltZ (b .north) (b .south)) (edgesReversed k)
+-- west over east, or south over north
+unfoldable pub edgesReversed : Box → Bool
+edgesReversed b = ltZ (b .east) (b .west) || ltZ (b .north) (b .south)
 
 -- box number k: 4 before 5
 unfoldable pub boxFault : ℕ → Box → Fault
-boxFault k b = farFault k b orElse reversedFault k b
+boxFault k b = when (edgeBeyond b) Cause.EdgeBeyond k orElse when (edgesReversed b) Cause.EdgesReversed k
 
 -- box by box, the first of them having the number k
 unfoldable pub eachBoxFault : ℕ → List Box → Fault
@@ -101,14 +90,14 @@ eachBoxFault k (b ∷ bs) = boxFault k b orElse eachBoxFault (k + 1) bs
 -- a box list: 1, 2, 3; then box by box
 unfoldable pub boxListFault : List ℤ → Fault
 boxListFault l =
-    when (not (eqb (length l % 4) 0)) (listLength (length l)) orElse
-    when (eqb (length l) 0) noBox orElse
-    when (ltb 1024 (length l / 4)) (tooManyBoxes (length l / 4)) orElse
+    when (not (eqb (length l % 4) 0)) Cause.ListLength (length l) orElse
+    when (eqb (length l) 0) Cause.NoBox 0 orElse
+    when (ltb mostBoxes (length l / 4)) Cause.TooManyBoxes (length l / 4) orElse
     eachBoxFault 1 (boxesOf l)
 
 -- plug number k
 unfoldable pub plugFault : ℕ → Point → Fault
-plugFault k p = when (beyond (p .east) || beyond (p .north)) (plugBeyond k)
+plugFault k p = when (beyond (p .east) || beyond (p .north)) Cause.PlugBeyond k
 
 -- plug by plug, the first of them having the number k
 unfoldable pub eachPlugFault : ℕ → List Point → Fault
@@ -117,11 +106,11 @@ eachPlugFault k (p ∷ ps) = plugFault k p orElse eachPlugFault (k + 1) ps
 
 -- a plug list: 1, then plug by plug
 unfoldable pub plugListFault : List ℤ → Fault
-plugListFault l = when (not (eqb (length l % 2) 0)) (listLength (length l)) orElse eachPlugFault 1 (plugsOf l)
+plugListFault l = when (not (eqb (length l % 2) 0)) Cause.ListLength (length l) orElse eachPlugFault 1 (plugsOf l)
 
 -- a lent buffer of a length, where a length is needed
 unfoldable pub bufferFault : ℕ → ℕ → Fault
-bufferFault needed given = when (ltb given needed) (bufferShort needed)
+bufferFault needed given = when (ltb given needed) Cause.BufferShort (neededPlace needed)
 
 -- the outer polygon and the corner polygons, into a buffer of a length: the boxes, then 7 for 8 × N numbers
 unfoldable pub areaFault : List ℤ → ℕ → Fault
@@ -142,4 +131,4 @@ readFault form boxes plugs boxesGiven plugsGiven =
 
 -- the printing program's input of a length
 unfoldable pub inputFault : ℕ → Fault
-inputFault given = when (ltb 65536 given) inputTooLong
+inputFault given = when (ltb mostInput given) Cause.InputTooLong mostInput

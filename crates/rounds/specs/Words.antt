@@ -5,8 +5,11 @@ use Rattle.plane.specs.Points.{Point}
 use Rattle.plane.specs.Vectors.{from, Supported, Balanced}
 use Rattle.plane.proofs.Alternative.{alternative}
 use Rattle.plane.proofs.Supporting.{supported-dec}
-use Rattle.rounds.specs.Boxes.{Box, cornersOf, allCorners}
+use Rattle.rounds.specs.Boxes.{cornersOf, allCorners}
 use Rattle.rounds.specs.Picks.{Pick}
+use Rattle.rounds.specs.declared.Box.{Box}
+use Rattle.rounds.specs.declared.Word.{Word}
+use Rattle.rounds.specs.declared.Word.the-variants.{Inside, Outside, Undecided}
 use Rattle.rounds.specs.declared.Corner.{Corner}
 use Rattle.rounds.specs.declared.Corner.the-variants.{SouthWest, SouthEast, NorthEast, NorthWest}
 
@@ -18,28 +21,23 @@ FirstSucceeds p k = Supported (map (from (k .denominator) p) (k .points))
 abbrev pub SecondSucceeds : {bs : List Box} → Point → Pick bs → Type 0
 SecondSucceeds p k = Balanced (map (from (k .denominator) p) (k .points))
 
--- document 01's three words
-pub data Word : Type 0 where
-  inside : Word
-  outside : Word
-  undecided : Word
-
 -- inside: no pick succeeds for the first driver; outside: none for the second; undecided: one succeeds for each
 abbrev pub Means : List Box → Point → Word → Type 0
-Means bs p inside = (k : Pick bs) → FirstSucceeds p k → ⊥
-Means bs p outside = (k : Pick bs) → SecondSucceeds p k → ⊥
-Means bs p undecided = ((k : Pick bs) × FirstSucceeds p k) × ((k : Pick bs) × SecondSucceeds p k)
+Means bs p Inside = (k : Pick bs) → FirstSucceeds p k → ⊥
+Means bs p Outside = (k : Pick bs) → SecondSucceeds p k → ⊥
+Means bs p Undecided = ((k : Pick bs) × FirstSucceeds p k) × ((k : Pick bs) × SecondSucceeds p k)
 
 -- outside where all corners together do not balance; inside where no corner list is supported
 abbrev pub wordBy : {B S W E N X : Type 0} → B ⊎ S → Dec W → Dec E → Dec N → Dec X → Word
-wordBy (inr s) w e n x = outside
-wordBy (inl b) (yes h) e n x = undecided
-wordBy (inl b) (no w) (yes h) n x = undecided
-wordBy (inl b) (no w) (no e) (yes h) x = undecided
-wordBy (inl b) (no w) (no e) (no n) (yes h) = undecided
-wordBy (inl b) (no w) (no e) (no n) (no x) = inside
+wordBy (inr s) w e n x = Outside
+wordBy (inl b) (yes h) e n x = Undecided
+wordBy (inl b) (no w) (yes h) n x = Undecided
+wordBy (inl b) (no w) (no e) (yes h) x = Undecided
+wordBy (inl b) (no w) (no e) (no n) (yes h) = Undecided
+wordBy (inl b) (no w) (no e) (no n) (no x) = Inside
 
--- the word of a plug, by document 004's finite formulas with corners. For ordered boxes it is the only word that `Means` holds of (proofs/Total: `exactly`)
+-- the word of a plug, by document 004's finite formulas with corners. For ordered boxes it is the only word that `Means` holds of
+-- (proofs/Total: `exactly`)
 unfoldable pub wordOf : List Box → Point → Word
 wordOf bs p =
     wordBy (alternative (map (from 1 p) (allCorners bs)))

@@ -1,6 +1,6 @@
 -- A coordinate of the span, moved by 16,000 to be a part of a key, and back. Assumes nothing.
 use mathlib.Core.Path.{_≡_, sym, ap, _∙_, subst}
-use Prim.Native.Nat.{ℕ, suc, _+_, _-_, _*_, _/_, _%_, _≤_}
+use Prim.Native.Nat.{ℕ, suc, _+_, _-_, _*_, _≤_}
 use native.Mathlib.Omega.{arith}
 use lib.Dec.{T, lit≤}
 use lib.IntN.{ℤ, pos, negsuc, _+ℤ_, _-ℤ_, natAbs}
@@ -14,7 +14,8 @@ use Rattle.integers.proofs.Lin.{lin}
 use Rattle.integers.proofs.Diff.{is-self, is-neg, is-add, is-eq, is-le, le-is}
 use Rattle.integers.proofs.Machine.{fits, plain, upto-plain, Got, got, got′, ask-sub, got-sub, ask-add, got-add}
 use Rattle.plane.specs.Points.{InSpan, point}
-use Rattle.turns.specs.Keys.{Key, KeyOf, pointOf}
+use Rattle.turns.specs.Keys.{stride, eastPart, northPart, Key, KeyOf, pointOf}
+use Rattle.turns.proofs.Parts.{east-made, north-made}
 
 -- a natural number at most b
 pub upto-nat : {b : ℕ} (n : ℕ) → n ≤ b → Upto b (pos n)
@@ -49,7 +50,7 @@ part-upto n h =
 -- a key's point is in the span
 pub key-in-span : {k : ℕ} → Key k → InSpan (pointOf k)
 unfolding pointOf
-key-in-span {k} h = record { easts = part-upto (k / 32768) (h .east-in); norths = part-upto (k % 32768) (h .north-in) }
+key-in-span {k} h = record { easts = part-upto (eastPart k) (h .east-in); norths = part-upto (northPart k) (h .north-in) }
 
 -- a coordinate z that a call returned as r, widened to 64 bits: what the cast asks, and what it leaves
 module _ {r z : ℤ} (e : r ≡ z) (h : Upto 16000 z) where
@@ -89,11 +90,11 @@ module _ {z : ℤ} (f : SFits w32 z) (h : Upto 16000 z) where
   moved = subst (λ x. Moved x z) (sym ((got-add (got f h) datum tt) .eq)) (moved-by z h)
 
 -- the key of two moved numbers
-pub key-made : {t s e n : ℤ} → Moved t e → Moved s n → KeyOf (point e n) (natAbs t * 32768 + natAbs s)
+pub key-made : {t s e n : ℤ} → Moved t e → Moved s n → KeyOf (point e n) (natAbs t * stride + natAbs s)
 unfolding pointOf
 key-made {t} {s} {e} {n} h k =
-    let a : (natAbs t * 32768 + natAbs s) / 32768 ≡ natAbs t = omega (arith, h .most, k .most) in
-    let b : (natAbs t * 32768 + natAbs s) % 32768 ≡ natAbs s = omega (arith, h .most, k .most) in
+    let a = east-made (natAbs t) (natAbs s) (omega (arith, k .most)) in
+    let b = north-made (natAbs t) (natAbs s) (omega (arith, k .most)) in
     record {
       key = record { east-in = omega (arith, h .most); north-in = omega (arith, k .most) };
       is = λ i. point ((ap (λ x. pos x -ℤ pos 16000) a ∙ h .is) i) ((ap (λ x. pos x -ℤ pos 16000) b ∙ k .is) i);

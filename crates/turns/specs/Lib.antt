@@ -1,2 +1,4 @@
 pub mod Keys
 pub mod Turns
+pub mod Reflection
+pub mod Sums

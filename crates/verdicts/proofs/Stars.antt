@@ -15,10 +15,13 @@ use Rattle.plane.specs.Vectors.{from, Balanced, Separated}
 use Rattle.plane.specs.Polygons.{AllRight, Polygon}
 use Rattle.plane.proofs.Combos.{separated-not-balanced}
 use Rattle.plane.proofs.PolygonFacts.{Between}
-use Rattle.rounds.specs.Boxes.{Box, box, cornersOf, allCorners}
+use Rattle.rounds.specs.Boxes.{box, cornersOf, allCorners}
+use Rattle.rounds.specs.declared.Box.{Box}
 use Rattle.rounds.specs.Picks.{Each}
-use Rattle.rounds.specs.Reasons.{Entry, SecondReason}
-use Rattle.rounds.specs.Words.{Means, inside, outside, undecided}
+use Rattle.rounds.specs.Reasons.{SecondReason}
+use Rattle.rounds.specs.declared.Entry.{Entry}
+use Rattle.rounds.specs.Words.{Means}
+use Rattle.rounds.specs.declared.Word.the-variants.{Inside, Outside, Undecided}
 use Rattle.rounds.specs.declared.Corner.{Corner}
 use Rattle.rounds.specs.declared.Corner.the-variants.{SouthWest, SouthEast, NorthEast}
 use Rattle.rounds.proofs.Checks.{inside-yes, outside-yes, second-yes, undecided-yes, polygon-yes}
@@ -43,7 +46,7 @@ abbrev pub One : List Box
 One = edges 0 0 4 4 ∷ []
 
 abbrev pub entry : ℕ → Corner → ℕ → Entry
-entry b c w = record { box = b; corner = c; weight = w }
+entry b c w = record { number = b; corner = c; weight = w }
 
 abbrev pub thirds : List Entry
 thirds = entry 1 SouthWest 1 ∷ entry 1 SouthEast 1 ∷ entry 2 SouthWest 1 ∷ []
@@ -59,20 +62,20 @@ pub record OnSide (qs : List Point) (p : Point) : Type 0 where
 
 -- the joint fact
 pub record Stars : Type 0 where
-  pub B-5-5 : Means B (at 5 5) inside
-  pub B-3-3 : Means B (at 3 3) inside
-  pub B-2-5 : Means B (at 2 5) undecided
+  pub B-5-5 : Means B (at 5 5) Inside
+  pub B-3-3 : Means B (at 3 3) Inside
+  pub B-2-5 : Means B (at 2 5) Undecided
   pub B-2-5-south-east : OnSide (cornersOf SouthEast B) (at 2 5)
   pub B-2-5-north-east : OnSide (cornersOf NorthEast B) (at 2 5)
-  pub B-0-0 : Means B (at 0 0) undecided
-  pub B-10-5 : Means B (at 10 5) undecided
-  pub B-11-5 : Means B (at 11 5) outside
+  pub B-0-0 : Means B (at 0 0) Undecided
+  pub B-10-5 : Means B (at 10 5) Undecided
+  pub B-11-5 : Means B (at 11 5) Outside
   pub B-outer : Polygon (allCorners B) (at 0 0 ∷ at 0 10 ∷ at 10 10 ∷ at 10 0 ∷ [])
-  pub L-1-1 : Means L (at 1 1) undecided
+  pub L-1-1 : Means L (at 1 1) Undecided
   pub L-1-1-thirds : SecondReason L (at 1 1) thirds
   pub L-1-1-no-whole : (qs : List Point) → Each 1 L qs → Balanced (map (from 1 (at 1 1)) qs) → ⊥
-  pub L-1-2 : Means L (at 1 2) outside
-  pub One-2-2 : Means One (at 2 2) undecided
+  pub L-1-2 : Means L (at 1 2) Outside
+  pub One-2-2 : Means One (at 2 2) Undecided
 
 -- B's boxes stand anticlockwise
 around : Corner → List Point

@@ -1,39 +1,45 @@
 -- The word of a plug against the five polygons of some boxes, which are given by their vertices' keys. Definitions only.
 use mathlib.Core.Path.{_≡_}
+use mathlib.Core.Bool.{Bool, true, false}
 use mathlib.Core.List.{List, map}
-use Prim.Native.Nat.{ℕ}
+use Prim.Native.Nat.{ℕ, _+_, _≤_}
+use lib.ListN.{length}
+use Rattle.plane.specs.Points.{Point}
 use Rattle.plane.specs.Members.{All}
+use Rattle.plane.specs.Vectors.{from, Supported}
 use Rattle.plane.specs.Polygons.{Polygon}
 use Rattle.turns.specs.Keys.{pointOf}
-use Rattle.rounds.specs.Boxes.{Box, Ordered, cornersOf, allCorners}
-use Rattle.rounds.specs.Words.{Word as PaperWord, inside, outside, undecided, wordOf}
-use Rattle.rounds.specs.declared.Corner.the-variants.{SouthWest, SouthEast, NorthEast, NorthWest}
-use Rattle.locations.specs.Answers.{Keys}
-use Rattle.words.specs.declared.Word.{Word}
-use Rattle.words.specs.declared.Word.the-variants.{Inside, Outside, Undecided}
+use Rattle.rounds.specs.Boxes.{Ordered}
+use Rattle.rounds.specs.Words.{wordOf}
+use Rattle.rounds.specs.declared.Box.{Box}
+use Rattle.rounds.specs.declared.Corner.{Corner}
+use Rattle.rounds.specs.declared.Word.{Word}
+use Rattle.locations.specs.Places.{KeyPolygon}
+use Rattle.outlines.specs.declared.RoundCounts.{RoundCounts}
+use Rattle.outlines.specs.RoundPolygons.{allCounts, verticesFrom, outerVertices, cornerVertices, RoundPolygons}
 
--- the vertices of each polygon and the plug are keys
-pub record FiveKeys (outer sw se ne nw : List ℕ) (k : ℕ) : Type 0 where
-  pub of-outer : Keys outer k
-  pub of-sw : Keys sw k
-  pub of-se : Keys se k
-  pub of-ne : Keys ne k
-  pub of-nw : Keys nw k
-
--- they are the polygons of the boxes
-pub record FivePolygons (bs : List Box) (outer sw se ne nw : List ℕ) : Type 0 where
-  pub is-outer : Polygon (allCorners bs) (map pointOf outer)
-  pub is-sw : Polygon (cornersOf SouthWest bs) (map pointOf sw)
-  pub is-se : Polygon (cornersOf SouthEast bs) (map pointOf se)
-  pub is-ne : Polygon (cornersOf NorthEast bs) (map pointOf ne)
-  pub is-nw : Polygon (cornersOf NorthWest bs) (map pointOf nw)
-
--- the definition's word for each case
-abbrev pub wordFor : Word → PaperWord
-wordFor Inside = inside
-wordFor Outside = outside
-wordFor Undecided = undecided
+-- the slice has the five polygons' vertices, of each at least one; these and the plug are keys
+pub record RoundKeys (ks : List ℕ) (n : RoundCounts) (k : ℕ) : Type 0 where
+  pub enough : allCounts n ≤ length ks
+  pub outer : KeyPolygon (outerVertices n ks) k
+  pub corners : (c : Corner) → KeyPolygon (cornerVertices n c ks) k
 
 -- it is the one word of the plug, for all ordered boxes whose polygons they are
-pub record WordIn (outer sw se ne nw : List ℕ) (k : ℕ) (r : Word) : Type 0 where
-  pub says : (bs : List Box) → All Ordered bs → FivePolygons bs outer sw se ne nw → wordFor r ≡ wordOf bs (pointOf k)
+pub record WordIn (ks : List ℕ) (n : RoundCounts) (k : ℕ) (r : Word) : Type 0 where
+  pub says : (bs : List Box) → All Ordered bs → RoundPolygons bs ks n → r ≡ wordOf bs (pointOf k)
+
+-- ---- one of the polygons
+
+-- the slice has n vertices from the index i on; these and the plug are keys
+pub record PartKeys (ks : List ℕ) (i n k : ℕ) : Type 0 where
+  pub enough : i + n ≤ length ks
+  pub keys : KeyPolygon (verticesFrom i n ks) k
+
+-- the plug p is strictly inside the hull of the points qs, or not
+abbrev pub WithinSays : List Point → Point → Bool → Type 0
+WithinSays qs p true = Supported (map (from 1 p) qs) → ⊥
+WithinSays qs p false = Supported (map (from 1 p) qs)
+
+-- the answer holds of all points whose polygon the vertices are
+pub record WithinOf (ks : List ℕ) (k : ℕ) (r : Bool) : Type 0 where
+  pub says : (qs : List Point) → Polygon qs (map pointOf ks) → WithinSays qs (pointOf k) r

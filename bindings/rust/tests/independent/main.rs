@@ -22,14 +22,26 @@ const SEED: u64 = 0x5B01_5B02_5C00_5B00;
 struct Tally {
     calls: BTreeMap<&'static str, u64>,
     words: BTreeMap<&'static str, u64>,
-    causes: BTreeMap<u32, u64>,
+    causes: BTreeMap<(&'static str, u32), u64>,
 }
+
+/// The refusals that each call has.
+const CAUSES: [(&str, &[u32]); 8] = [
+    ("outer_polygon", &[1, 2, 3, 4, 5, 7]),
+    ("corner_polygons", &[1, 2, 3, 4, 5, 7]),
+    ("verdict", &[1, 2, 3, 4, 5, 6]),
+    ("word", &[1, 2, 3, 4, 5, 6]),
+    ("verdict_on_records", &[2, 3, 4, 5, 6]),
+    ("read_round", &[7, 8, 9, 10, 11]),
+    ("write_round", &[1, 2, 3, 4, 5, 6, 7]),
+    ("print_round", &[2, 3, 4, 5, 8, 9, 10, 11, 12]),
+];
 
 impl Tally {
     fn compared(&mut self, call: &'static str, cause: Option<Cause>) {
         *self.calls.entry(call).or_default() += 1;
         if let Some((number, _)) = cause {
-            *self.causes.entry(number).or_default() += 1;
+            *self.causes.entry((call, number)).or_default() += 1;
         }
     }
 
@@ -147,9 +159,13 @@ fn compare_verdicts(tally: &mut Tally, boxes: &[i32], plug: (i32, i32), word: im
     tally.compared("word", wanted.err());
 
     if boxes.len() % 4 == 0 {
-        let records: Vec<BoxEdges> =
-            boxes.chunks_exact(4).map(|n| BoxEdges { west: n[0], south: n[1], east: n[2], north: n[3] }).collect();
-        let on_records = feltloquat::verdict_on_records(&records, east, north);
+        // The last record is not lent, and would be refused.
+        let records: Vec<BoxEdges> = [boxes, &[0, 0, 0, 16_001]]
+            .concat()
+            .chunks_exact(4)
+            .map(|n| BoxEdges { west: n[0], south: n[1], east: n[2], north: n[3] })
+            .collect();
+        let on_records = feltloquat::verdict_on_records(&records[..boxes.len() / 4], east, north);
         if on_records != given {
             fail("verdict_on_records", &input, &given, &on_records);
         }
@@ -529,6 +545,12 @@ fn printed_files(tally: &mut Tally, g: &mut Generator) {
     compare_print(tally, &format::bytes_of(&boxes, &plugs));
     let many: Vec<i32> = (0..2 * 6_551).map(|_| g.between(-2, 3)).collect();
     compare_print(tally, &format::bytes_of(&[0, 0, 1, 1], &many));
+    // No box, 1,024 boxes and 1,025, and a box after a plug.
+    for count in [0, 1_024, 1_025] {
+        compare_print(tally, &format::bytes_of(&vec![0; 4 * count], &[2, 2]));
+    }
+    let round = format::bytes_of(&[0, 0, 4, 4], &[2, 2]);
+    compare_print(tally, &[&round[..28], &round].concat());
     for length in [65_535, 65_536, 65_537, 70_000] {
         compare_print(tally, &vec![0x5B; length]);
         compare_print(tally, &cases::file_of_length(length));
@@ -538,6 +560,13 @@ fn printed_files(tally: &mut Tally, g: &mut Generator) {
 /// The edges of the limits: 1,024 boxes and 1,025, 16,000 and 16,001, 8 × N and one less.
 fn limits(tally: &mut Tally) {
     let word = |edges: &[Edges], at: Pair| wrapping::word(&wrapping::polygons(edges), at);
+    // Round B at the end of 1,024 boxes, so that the last boxes decide; and one box more.
+    let boxes = [[0, 0, 2, 2].repeat(1_021), vec![8, 0, 10, 2, 8, 8, 10, 10, 0, 8, 2, 10, 2, 8, 0, 10]].concat();
+    for count in [0, 1, 1_021, 1_022, 1_023, 1_024, 1_025] {
+        compare_verdicts(tally, &boxes[..4 * count], (5, 5), word);
+        compare_verdicts(tally, &boxes[..4 * count], (16_001, 5), word);
+        compare_verdicts(tally, &boxes[4 * (1_025 - count)..], (5, 5), word);
+    }
     for count in [1, 2, 1_023, 1_024, 1_025, 5_000] {
         let boxes = [-16_000, -16_000, 16_000, 16_000].repeat(count);
         for plug in [(0, 0), (16_000, -16_000), (16_001, 0), (0, -16_001)] {
@@ -584,8 +613,15 @@ fn main() {
     println!("  by call: {:?}", tally.calls);
     println!("  by word: {:?}", tally.words);
     println!("  by refusal: {:?}", tally.causes);
-    if (1..=12).any(|number| !tally.causes.contains_key(&number)) || tally.words.len() != 3 {
-        println!("FAILED: a refusal or a word was never met");
+    for (call, numbers) in CAUSES {
+        let met: Vec<u32> = tally.causes.keys().filter(|key| key.0 == call).map(|key| key.1).collect();
+        if met != numbers {
+            println!("FAILED: the refusals of {call} that were met are {met:?}, not {numbers:?}");
+            std::process::exit(1);
+        }
+    }
+    if tally.words.len() != 3 {
+        println!("FAILED: a word was never met");
         std::process::exit(1);
     }
     println!("compared {} cases, all equal", tally.total());

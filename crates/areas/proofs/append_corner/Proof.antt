@@ -22,10 +22,20 @@ write-corner-requires c κs = search needs
 same-length : tie.Need-same-length
 same-length c = search needs
 
+same-length-2 : tie.Need-same-length-2
+same-length-2 c = search needs
+
+same-length-3 : tie.Need-same-length-3
+same-length-3 c = search needs
+
+same-length-4 : tie.Need-same-length-4
+same-length-4 c = search needs
+
 returns : tie.Need-returns
 returns c =
-    let s = c .before .before .before in
-    written-behind _ (s .args .from) (s .args .answer .now) (c .before .write-corner .last .1 .1 .0) (c .before .write-corner .result) (c .before .write-corner .ensures)
+    let f = c .before .before .before .before .before .before .before in
+    let s = f .before .before .before .before .before .before .before .before in
+    written-behind _ (s .args .from) (s .args .answer .now) (f .write-corner .last .1 .1 .0) (f .write-corner .result) (f .write-corner .ensures)
 
 pub append-corner-spec : {M : Type 1} → statement M
 append-corner-spec =
@@ -37,4 +47,7 @@ append-corner-spec =
     part-write-corner-end
     write-corner-requires
     same-length
+    same-length-2
+    same-length-3
+    same-length-4
     returns)

@@ -1,47 +1,70 @@
--- `areas::write_corner` meets its contract: scratch for 64 boxes is enough for few, and for 1,024 for all. Assumes nothing.
+-- `areas::write_corner` meets its contract: the points of the polygon's keys are its vertices. Assumes nothing.
+use mathlib.Core.Path.{_≡_, sym}
 use Prim.Native.Nat.{_/_, _≤_}
+use native.Mathlib.Omega.{arith}
 use borrow.Author.Needs.{needs}
-use lib.ListN.{length}
-use Rattle.rounds.proofs.Accepted.{accepted}
+use lib.ListN.{length, take}
+use lib.Seq.{length-take-le}
+use Rattle.areas.proofs.Listing.{few, written}
 use Rattle.areas.proofs.write_corner.Statement.{statement}
 use Rattle.areas.proofs.write_corner.Tie as tie
 
-slice-aggregate-write-corner-in : tie.Need-slice-aggregate-write-corner-in
-slice-aggregate-write-corner-in c = search needs
+abbrev entry : tie.After-corner-outline → tie.Start
+entry c = c .before .before .before .before .before .before .before
 
-write-corner-in-requires : tie.Need-write-corner-in-requires
-write-corner-in-requires c κs = search needs
+-- the vertices are no more than the points, and so have room among the keys
+few-vertices : (c : tie.After-corner-outline) → c .corner-outline .result ≤ length (entry c .args .boxes .now) / 4
+few-vertices c = few _ (entry c .args .boxes .now) (c .corner-outline .ensures .few)
+
+room : (c : tie.After-corner-outline) → c .corner-outline .result ≤ length (c .corner-outline .last .1 .1 .0)
+room c = omega (arith, few-vertices c, c .corner-outline .kept .1 .1 .0, entry c .pre .1)
+
+taken : (c : tie.After-corner-outline) → length (take (c .corner-outline .result) (c .corner-outline .last .1 .1 .0)) ≡ c .corner-outline .result
+taken c = length-take-le (c .corner-outline .result) (c .corner-outline .last .1 .1 .0) (room c)
+
+corner-outline-requires : tie.Need-corner-outline-requires
+corner-outline-requires c κs = search needs
+
+slice-reshare-prefix-write-vertices : tie.Need-slice-reshare-prefix-write-vertices
+slice-reshare-prefix-write-vertices c = room (c .before .before .before .before .before .before)
+
+slice-aggregate-write-vertices : tie.Need-slice-aggregate-write-vertices
+slice-aggregate-write-vertices c = sym (taken (c .before .before .before .before .before .before .before))
+
+write-vertices-requires : tie.Need-write-vertices-requires
+write-vertices-requires c κs =
+    let f = c .before .before .before .before .before .before .before .before in
+    (f .corner-outline .ensures .keys, omega (arith, taken f, few-vertices f, entry f .pre .0 .1))
 
 same-length : tie.Need-same-length
 same-length c = search needs
 
-returns : tie.Need-returns
-returns c = search needs
-
-slice-aggregate-write-corner-in-2 : tie.Need-slice-aggregate-write-corner-in-2
-slice-aggregate-write-corner-in-2 c = search needs
-
-write-corner-in-requires-2 : tie.Need-write-corner-in-requires-2
-write-corner-in-requires-2 c κs =
-    let s = c .before .before .before in
-    let few : length (s .args .boxes .now) / 4 ≤ 1024 = accepted (s .args .boxes .now) (s .pre .0) .few in
-    (s .pre .0, (few, s .pre .1))
-
 same-length-2 : tie.Need-same-length-2
 same-length-2 c = search needs
 
-returns-2 : tie.Need-returns-2
-returns-2 c = search needs
+same-length-3 : tie.Need-same-length-3
+same-length-3 c = search needs
+
+same-length-4 : tie.Need-same-length-4
+same-length-4 c = search needs
+
+returns : tie.Need-returns
+returns c =
+    let f = c .before .before .before .before .before .before .before .before .before .before in
+    let p = f .corner-outline in
+    let w = c .before .write-vertices in
+    written _ (p .last .1 .1 .0) (p .result) (entry f .args .answer .now) (w .last .1 .0) (p .ensures) (room f) (w .ensures)
 
 pub write-corner-spec : {M : Type 1} → statement M
 write-corner-spec =
     tie.close
     (tie.spec
-    slice-aggregate-write-corner-in
-    write-corner-in-requires
+    corner-outline-requires
+    slice-reshare-prefix-write-vertices
+    slice-aggregate-write-vertices
+    write-vertices-requires
     same-length
-    returns
-    slice-aggregate-write-corner-in-2
-    write-corner-in-requires-2
     same-length-2
-    returns-2)
+    same-length-3
+    same-length-4
+    returns)

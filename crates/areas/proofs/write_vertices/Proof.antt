@@ -11,7 +11,7 @@ use mir.ValLaws.{toZ-ofZ}
 use Rattle.integers.proofs.Tests.{ok}
 use Rattle.plane.proofs.Lists.{index-of-all}
 use Rattle.turns.specs.Keys.{pointOf}
-use Rattle.corners.proofs.Edges.{map-at}
+use Rattle.corners.proofs.Places.{map-at}
 use Rattle.areas.specs.Buffers.{flat}
 use Rattle.areas.proofs.Writing.{partly, partly-all, two-more, flat-length, flat-east, flat-north}
 use Rattle.areas.proofs.write_vertices.Statement.{statement}

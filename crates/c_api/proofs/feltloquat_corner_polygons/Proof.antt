@@ -1,7 +1,7 @@
 -- `c_api::feltloquat_corner_polygons` meets its contract: it gives the reply that `areas::corner_polygons` promises. Assumes nothing.
-use Rattle.c_api.specs.Areas.{cornersStruct, cornersMeant}
-use Rattle.c_api.proofs.Answering.{answered}
-use Rattle.c_api.proofs.Areas.{corners-back}
+use Rattle.c_answers.specs.Areas.{cornersStruct, cornersMeant}
+use Rattle.c_answers.proofs.Answering.{answered}
+use Rattle.c_answers.proofs.Areas.{corners-back}
 use borrow.Author.Needs.{needs}
 use Rattle.c_api.proofs.feltloquat_corner_polygons.Statement.{statement}
 use Rattle.c_api.proofs.feltloquat_corner_polygons.Tie as tie
@@ -19,7 +19,7 @@ returns : tie.Need-returns
 returns c =
     let a = c .before .before .corner-polygons .result in
     let h = c .before .before .corner-polygons .ensures in
-    answered cornersStruct cornersMeant _ a (c .corners-struct .result) h (corners-back _ _ _ a h) (c .corners-struct .ensures)
+    answered cornersStruct cornersMeant _ a (c .corners-struct .result) h (corners-back a) (c .corners-struct .ensures)
 
 pub feltloquat-corner-polygons-spec : {M : Type 1} → statement M
 feltloquat-corner-polygons-spec =

@@ -1,7 +1,7 @@
 -- `c_api::feltloquat_outer_polygon` meets its contract: it gives the reply that `areas::outer_polygon` promises. Assumes nothing.
-use Rattle.c_api.specs.Areas.{outerStruct, outerMeant}
-use Rattle.c_api.proofs.Answering.{answered}
-use Rattle.c_api.proofs.Areas.{outer-back}
+use Rattle.c_answers.specs.Areas.{outerStruct, outerMeant}
+use Rattle.c_answers.proofs.Answering.{answered}
+use Rattle.c_answers.proofs.Areas.{outer-back}
 use borrow.Author.Needs.{needs}
 use Rattle.c_api.proofs.feltloquat_outer_polygon.Statement.{statement}
 use Rattle.c_api.proofs.feltloquat_outer_polygon.Tie as tie
@@ -19,7 +19,7 @@ returns : tie.Need-returns
 returns c =
     let a = c .before .before .outer-polygon .result in
     let h = c .before .before .outer-polygon .ensures in
-    answered outerStruct outerMeant _ a (c .outer-struct .result) h (outer-back _ _ _ a h) (c .outer-struct .ensures)
+    answered outerStruct outerMeant _ a (c .outer-struct .result) h (outer-back a) (c .outer-struct .ensures)
 
 pub feltloquat-outer-polygon-spec : {M : Type 1} → statement M
 feltloquat-outer-polygon-spec =

@@ -1,7 +1,7 @@
 -- `c_api::feltloquat_read_round` meets its contract: it gives the answer that `files::read_round` promises. Assumes nothing.
-use Rattle.c_api.specs.Files.{readStruct, readMeant}
-use Rattle.c_api.proofs.Answering.{answered}
-use Rattle.c_api.proofs.Files.{read-back}
+use Rattle.c_answers.specs.Files.{readStruct, readMeant}
+use Rattle.c_answers.proofs.Answering.{answered}
+use Rattle.c_answers.proofs.Files.{read-back}
 use borrow.Author.Needs.{needs}
 use Rattle.c_api.proofs.feltloquat_read_round.Statement.{statement}
 use Rattle.c_api.proofs.feltloquat_read_round.Tie as tie
@@ -22,7 +22,7 @@ returns : tie.Need-returns
 returns c =
     let a = c .before .before .before .read-round .result in
     let h = c .before .before .before .read-round .ensures in
-    answered readStruct readMeant _ a (c .read-struct .result) h (read-back _ _ _ _ _ a h) (c .read-struct .ensures)
+    answered readStruct readMeant _ a (c .read-struct .result) h (read-back a) (c .read-struct .ensures)
 
 pub feltloquat-read-round-spec : {M : Type 1} → statement M
 feltloquat-read-round-spec =

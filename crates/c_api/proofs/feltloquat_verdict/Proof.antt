@@ -3,9 +3,9 @@ use mir.Syntax.{w32}
 use mir.ValLaws.{toZ-ofZ}
 use Rattle.plane.specs.Points.{point}
 use Rattle.verdicts.specs.Verdicts.{VerdictIs}
-use Rattle.c_api.specs.Verdicts.{verdictStruct, verdictMeant}
-use Rattle.c_api.proofs.Answering.{answered}
-use Rattle.c_api.proofs.Verdicts.{verdict-back}
+use Rattle.c_answers.specs.Verdicts.{verdictStruct, verdictMeant}
+use Rattle.c_answers.proofs.Answering.{answered}
+use Rattle.c_answers.proofs.Verdicts.{verdict-back}
 use borrow.Author.Needs.{needs}
 use Rattle.c_api.proofs.feltloquat_verdict.Statement.{statement}
 use Rattle.c_api.proofs.feltloquat_verdict.Tie as tie
@@ -21,7 +21,7 @@ returns c =
     let s = c .before .before in
     let v = c .before .verdict-on .result in
     let h = rw (toZ-ofZ w32 _ (s .fits .east), toZ-ofZ w32 _ (s .fits .north)) at (c .before .verdict-on .ensures) in
-    answered verdictStruct verdictMeant (VerdictIs (s .args .boxes .now) (point (s .args .east) (s .args .north))) v (c .verdict-struct .result) h (verdict-back _ _ v h) (c .verdict-struct .ensures)
+    answered verdictStruct verdictMeant (VerdictIs (s .args .boxes .now) (point (s .args .east) (s .args .north))) v (c .verdict-struct .result) h (verdict-back v) (c .verdict-struct .ensures)
 
 pub feltloquat-verdict-spec : {M : Type 1} → statement M
 feltloquat-verdict-spec = tie.close (tie.spec verdict-on-requires verdict-struct-requires returns)

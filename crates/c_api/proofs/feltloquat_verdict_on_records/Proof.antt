@@ -42,23 +42,23 @@ use Rattle.verdicts.specs.declared.Verdict.{Verdict}
 use Rattle.verdicts.proofs.Verdict as S
 use Rattle.verdicts.proofs.Verdict.Laws as S′
 use Rattle.records.specs.Records.{edgesOf}
-use Rattle.records.specs.declared.BoxEdges.{BoxEdges}
-use Rattle.records.proofs.BoxEdges as T
+use Rattle.rounds.specs.declared.Box.{Box}
+use Rattle.rounds.proofs.Box as T
 use Rattle.records.proofs.verdict_on as judged
 use Rattle.records.proofs.verdict_on.Symbol as judged-def
 use Rattle.records.proofs.verdict_on.Symbol.{name as on-name}
 use Rattle.records.proofs.verdict_on.Met as judged-thm
-use Rattle.c_api.specs.Answers.{Answered}
-use Rattle.c_api.specs.Verdicts.{verdictStruct, verdictMeant}
-use Rattle.c_api.specs.declared.VerdictAnswer.{VerdictAnswer}
-use Rattle.c_api.proofs.Answering.{answered}
-use Rattle.c_api.proofs.Verdicts.{verdict-back}
-use Rattle.c_api.proofs.VerdictAnswer as N
-use Rattle.c_api.proofs.VerdictAnswer.Laws as N′
-use Rattle.c_api.proofs.verdict_struct as made
-use Rattle.c_api.proofs.verdict_struct.Symbol as made-def
-use Rattle.c_api.proofs.verdict_struct.Symbol.{name as struct-name}
-use Rattle.c_api.proofs.verdict_struct.Met as made-thm
+use Rattle.c_answers.specs.Answers.{Answered}
+use Rattle.c_answers.specs.Verdicts.{verdictStruct, verdictMeant}
+use Rattle.c_answers.specs.declared.VerdictAnswer.{VerdictAnswer}
+use Rattle.c_answers.proofs.Answering.{answered}
+use Rattle.c_answers.proofs.Verdicts.{verdict-back}
+use Rattle.c_answers.proofs.VerdictAnswer as N
+use Rattle.c_answers.proofs.VerdictAnswer.Laws as N′
+use Rattle.c_answers.proofs.verdict_struct as made
+use Rattle.c_answers.proofs.verdict_struct.Symbol as made-def
+use Rattle.c_answers.proofs.verdict_struct.Symbol.{name as struct-name}
+use Rattle.c_answers.proofs.verdict_struct.Met as made-thm
 use Rattle.c_api.proofs.feltloquat_verdict_on_records.Key.{name as entry-name}
 use Rattle.c_api.proofs.feltloquat_verdict_on_records as entry
 use Rattle.c_api.proofs.feltloquat_verdict_on_records.Statement as stated
@@ -78,7 +78,7 @@ module _ {M : Type 1} (𝓤 : URA M) (H : Heap 𝓤) (A : Atoms 𝓤) (mem : Mem
   abbrev Give : Contract 𝓤
   Give = tripleOf 𝓤 H A made.signature (made.spec 𝓤 H A mem run)
 
-module _ {M : Type 1} (𝓤 : URA M) (H : Heap 𝓤) (A : Atoms 𝓤) (W : Given 𝓤 H A) (mem : Memory → SProp 𝓤) (run : Routine → Fun 𝓤) (κ : Lft) (q : Share) (x : RefT (List BoxEdges))
+module _ {M : Type 1} (𝓤 : URA M) (H : Heap 𝓤) (A : Atoms 𝓤) (W : Given 𝓤 H A) (mem : Memory → SProp 𝓤) (run : Routine → Fun 𝓤) (κ : Lft) (q : Share) (x : RefT (List Box))
     (east north : ℤ) where
   -- the machine values of the slice and of the plug
   abbrev v : Val
@@ -170,7 +170,7 @@ module _ {M : Type 1} (𝓤 : URA M) (H : Heap 𝓤) (A : Atoms 𝓤) (W : Given
         returns ! (look ! 13 refl) $ forget ! 5 refl $ forget ! 7 refl $ forget ! 9 refl $ forget ! 11 refl $ forget ! 13 refl $
         move ! (13 ∷ 14 ∷ []) $ free1 ! $ move ! (11 ∷ 12 ∷ []) $ free1 ! $ move ! (9 ∷ 10 ∷ []) $ free1 ! $ move ! (7 ∷ 8 ∷ []) $ free1 ! $
         move ! (5 ∷ 6 ∷ []) $ free1 ! $ free0 ! $
-        by ! (exits t u′ (answered verdictStruct verdictMeant (VerdictIs (edgesOf (now x)) (point east north)) r t promised (verdict-back (edgesOf (now x)) (point east north) r promised) given)))))))))))))))
+        by ! (exits t u′ (answered verdictStruct verdictMeant (VerdictIs (edgesOf (now x)) (point east north)) r t promised (verdict-back r) given)))))))))))))))
 
 module _ {M : Type 1} (𝓤 : URA M) (H : Heap 𝓤) (A : Atoms 𝓤) (W : Given 𝓤 H A) (mem : Memory → SProp 𝓤) (run : Routine → Fun 𝓤) where
   entry-walks : (C : Calls 𝓤 H) (Λ : Loops 𝓤 H) → FmC 𝓤 H (W .laws) C → Triple 𝓤 (C on-name) (On 𝓤 H A mem run) → Triple 𝓤 (C struct-name) (Give 𝓤 H A mem run)
@@ -195,4 +195,4 @@ feltloquat-verdict-on-records-spec 𝓤 H 𝓜 𝓖 𝓡 =
     (tables 𝓤 H 𝓜 𝓡 code.env .C) (tables 𝓤 H 𝓜 𝓡 code.env .Λ) entry-name code.function (code.unfolded 𝓤 H 𝓜 𝓡)
     (entry-meets 𝓤 H (𝓖 .A) (givenOf 𝓤 H 𝓜 𝓖) (𝓜 .mem) (𝓡 .run) (tablesOf 𝓤 H 𝓜 (tables 𝓤 H 𝓜 𝓡 code.env))
     (cited 𝓤 H (On 𝓤 H (𝓖 .A) (𝓜 .mem) (𝓡 .run)) 𝓜 𝓡 code.env on-name judged-def.routine code.calls-records·verdict-on (judged-thm.met 𝓤 H 𝓜 𝓖 𝓡))
-    (cited 𝓤 H (Give 𝓤 H (𝓖 .A) (𝓜 .mem) (𝓡 .run)) 𝓜 𝓡 code.env struct-name made-def.routine code.calls-c-api·verdict-struct (made-thm.met 𝓤 H 𝓜 𝓖 𝓡)))
+    (cited 𝓤 H (Give 𝓤 H (𝓖 .A) (𝓜 .mem) (𝓡 .run)) 𝓜 𝓡 code.env struct-name made-def.routine code.calls-c-answers·verdict-struct (made-thm.met 𝓤 H 𝓜 𝓖 𝓡)))

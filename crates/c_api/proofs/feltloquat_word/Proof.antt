@@ -4,9 +4,9 @@ use mir.Syntax.{w32}
 use mir.ValLaws.{toZ-ofZ}
 use Rattle.plane.specs.Points.{point}
 use Rattle.verdicts.specs.Verdicts.{wordReply, verdictOn}
-use Rattle.c_api.specs.Verdicts.{wordStruct, wordMeant}
-use Rattle.c_api.proofs.Answering.{answered}
-use Rattle.c_api.proofs.Verdicts.{word-back}
+use Rattle.c_answers.specs.Verdicts.{wordStruct, wordMeant}
+use Rattle.c_answers.proofs.Answering.{answered}
+use Rattle.c_answers.proofs.Verdicts.{word-back}
 use borrow.Author.Needs.{needs}
 use Rattle.c_api.proofs.feltloquat_word.Statement.{statement}
 use Rattle.c_api.proofs.feltloquat_word.Tie as tie
@@ -22,7 +22,7 @@ returns c =
     let s = c .before .before in
     let v = c .before .word-on .result in
     let h = rw (toZ-ofZ w32 _ (s .fits .east), toZ-ofZ w32 _ (s .fits .north)) at (c .before .word-on .ensures) in
-    answered wordStruct wordMeant (λ word. wordReply word ≡ verdictOn (s .args .boxes .now) (point (s .args .east) (s .args .north))) v (c .word-struct .result) h (word-back _ _ v h) (c .word-struct .ensures)
+    answered wordStruct wordMeant (λ word. wordReply word ≡ verdictOn (s .args .boxes .now) (point (s .args .east) (s .args .north))) v (c .word-struct .result) h (word-back v) (c .word-struct .ensures)
 
 pub feltloquat-word-spec : {M : Type 1} → statement M
 feltloquat-word-spec = tie.close (tie.spec word-on-requires word-struct-requires returns)

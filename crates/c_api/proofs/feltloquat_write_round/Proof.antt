@@ -1,7 +1,7 @@
 -- `c_api::feltloquat_write_round` meets its contract: it gives the answer that `files::write_round` promises. Assumes nothing.
-use Rattle.c_api.specs.Files.{writeStruct, writeMeant}
-use Rattle.c_api.proofs.Answering.{answered}
-use Rattle.c_api.proofs.Files.{write-back}
+use Rattle.c_answers.specs.Files.{writeStruct, writeMeant}
+use Rattle.c_answers.proofs.Answering.{answered}
+use Rattle.c_answers.proofs.Files.{write-back}
 use borrow.Author.Needs.{needs}
 use Rattle.c_api.proofs.feltloquat_write_round.Statement.{statement}
 use Rattle.c_api.proofs.feltloquat_write_round.Tie as tie
@@ -19,7 +19,7 @@ returns : tie.Need-returns
 returns c =
     let a = c .before .before .before .write-round .result in
     let h = c .before .before .before .write-round .ensures in
-    answered writeStruct writeMeant _ a (c .write-struct .result) h (write-back _ _ _ _ a h) (c .write-struct .ensures)
+    answered writeStruct writeMeant _ a (c .write-struct .result) h (write-back a) (c .write-struct .ensures)
 
 pub feltloquat-write-round-spec : {M : Type 1} → statement M
 feltloquat-write-round-spec =

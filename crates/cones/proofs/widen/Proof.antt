@@ -3,6 +3,7 @@ use mathlib.Core.Path.{_≡_, sym, subst}
 use Rattle.plane.specs.Points.{Point}
 use Rattle.turns.specs.Keys.{pointOf}
 use Rattle.cones.specs.Cones.{Known, Widened}
+use Rattle.cones.specs.declared.CornerKey.{CornerKey}
 use Rattle.cones.specs.declared.Cone.{Cone}
 use Rattle.cones.proofs.Widening.{around-same}
 use borrow.Author.Needs.{needs}
@@ -10,7 +11,7 @@ use Rattle.cones.proofs.widen.Statement.{statement}
 use Rattle.cones.proofs.widen.Tie as tie
 
 -- what holds of the case holds of the cone
-same : {p v : Point} {cone case wider : Cone} → cone ≡ case → Widened p case v wider → Widened p cone v wider
+same : {p : Point} {v : CornerKey} {cone case wider : Cone} → cone ≡ case → Widened p case v wider → Widened p cone v wider
 same {p} {v} {cone} {case} {wider} e = subst (λ x. Widened p x v wider) (sym e)
 
 enum-told : tie.Need-enum-told

@@ -1,11 +1,20 @@
 -- `corners::corner_east` meets its contract, corner by corner. Assumes nothing.
-use mathlib.Core.Path.{sym, _∙_, ap}
-use mir.Syntax.{w32}
-use mir.ValLaws.{toZ-ofZ}
-use Rattle.corners.specs.Corners.{cornerEast}
+use mathlib.Core.Path.{_≡_, refl, sym, _∙_, ap}
 use borrow.Author.Needs.{needs}
+use lib.IntN.{ℤ}
+use mir.Syntax.{w32}
+use mir.Val.{SFits, toZ, ofZ}
+use mir.ValLaws.{toZ-ofZ}
+use Rattle.integers.proofs.Tests.{ok}
+use Rattle.rounds.specs.Boxes.{cornerOf}
+use Rattle.rounds.specs.declared.Box.{Box}
+use Rattle.rounds.specs.declared.Corner.{Corner}
 use Rattle.corners.proofs.corner_east.Statement.{statement}
 use Rattle.corners.proofs.corner_east.Tie as tie
+
+-- an edge that is the corner's east, read back
+read : (b : Box) (x : ℤ) {c d : Corner} → SFits w32 x → x ≡ cornerOf d b .east → c ≡ d → toZ w32 (ofZ w32 x) ≡ cornerOf c b .east
+read b x f e g = toZ-ofZ w32 x f ∙ e ∙ sym (ap (λ c. cornerOf c b .east) g)
 
 enum-told : tie.Need-enum-told
 enum-told c = search needs
@@ -20,16 +29,16 @@ enum-told-4 : tie.Need-enum-told-4
 enum-told-4 c = search needs
 
 returns : tie.Need-returns
-returns c = let s = c .before .before in toZ-ofZ w32 _ (s .fits .west) ∙ sym (ap (cornerEast (s .args .west) (s .args .east)) (c .enum-told .given .1))
+returns c = let s = c .before .before .before .args in read (s .b) _ (ok (s .b .west) (c .struct-told .given .0 .1)) refl (c .before .enum-told .given .1)
 
 returns-2 : tie.Need-returns-2
-returns-2 c = let s = c .before .before in toZ-ofZ w32 _ (s .fits .east) ∙ sym (ap (cornerEast (s .args .west) (s .args .east)) (c .enum-told2 .given .1))
+returns-2 c = let s = c .before .before .before .args in read (s .b) _ (ok (s .b .east) (c .struct-told2 .given .1 .1 .0 .1)) refl (c .before .enum-told2 .given .1)
 
 returns-3 : tie.Need-returns-3
-returns-3 c = let s = c .before .before in toZ-ofZ w32 _ (s .fits .east) ∙ sym (ap (cornerEast (s .args .west) (s .args .east)) (c .enum-told3 .given .1))
+returns-3 c = let s = c .before .before .before .args in read (s .b) _ (ok (s .b .east) (c .struct-told3 .given .1 .1 .0 .1)) refl (c .before .enum-told3 .given .1)
 
 returns-4 : tie.Need-returns-4
-returns-4 c = let s = c .before .before in toZ-ofZ w32 _ (s .fits .west) ∙ sym (ap (cornerEast (s .args .west) (s .args .east)) (c .enum-told4 .given .1))
+returns-4 c = let s = c .before .before .before .args in read (s .b) _ (ok (s .b .west) (c .struct-told4 .given .0 .1)) refl (c .before .enum-told4 .given .1)
 
 pub corner-east-spec : {M : Type 1} → statement M
 corner-east-spec =

@@ -6,19 +6,20 @@ use native.Mathlib.Omega.{arith}
 use borrow.Author.Needs.{needs}
 use lib.Dec.{ltb}
 use lib.ListN.{length}
-use Rattle.files.specs.Content.{contentOf}
+use Rattle.formats.specs.Content.{contentOf}
 use Rattle.files.specs.Steps.{Room}
 use Rattle.files.specs.declared.Record.{Record}
 use Rattle.files.specs.declared.Record.the-variants.{Box, Plug, Note}
 use Rattle.files.proofs.Over.{wrote-length}
-use Rattle.files.proofs.Scan.{scan, Found, found, next-is}
-use Rattle.files.proofs.Filling.{Filled, filled-start, filled-box, filled-plug, filled-note, filled-boxes, filled-plugs, no-fault, room-for-box, room-for-plug}
+use Rattle.formats.proofs.Scan.{scan}
+use Rattle.files.proofs.Records.{RecordFound, found, next-is}
+use Rattle.files.proofs.Filling.{FilledSofar, filled-start, filled-box, filled-plug, filled-note, filled-end, no-fault, room-for-box, room-for-plug}
 use Rattle.files.proofs.fill.Statement.{statement}
 use Rattle.files.proofs.fill.Tie as tie
 
 abbrev Inv-loop : tie.InvT-loop
 Inv-loop file boxes₀ plugs₀ at₀ edge₀ coordinate₀ boxes plugs at edge coordinate =
-    (at ≤ length file) × Filled file boxes₀ plugs₀ (scan file at (ltb 0 coordinate)) edge coordinate boxes plugs
+    (at ≤ length file) × FilledSofar file boxes₀ plugs₀ (scan file at (ltb 0 coordinate)) edge coordinate boxes plugs
 
 abbrev μ-loop : tie.MeasureT-loop
 μ-loop file boxes₀ plugs₀ at₀ edge₀ coordinate₀ boxes plugs at edge coordinate = length file - at
@@ -34,7 +35,7 @@ abbrev turn-of-note : tie.After-known-told3 Inv-loop μ-loop → tie.At-loop Inv
 turn-of-note c = c .before .before .before .before
 
 abbrev FoundAt : tie.At-loop Inv-loop μ-loop → Record → Type 0
-FoundAt c r = Found (c .before .before .args .file .now) (c .loop .at) (ltb 0 (c .loop .coordinate)) r
+FoundAt c r = RecordFound (c .before .before .args .file .now) (c .loop .at) (ltb 0 (c .loop .coordinate)) r
 
 box-found : (c : tie.After-known-told Inv-loop μ-loop) → FoundAt (turn-of-box c) (Box (c .before .found .given .0 .0))
 box-found c = found (c .before .before .before .next-record .ensures) (c .before .found .given .1)
@@ -130,8 +131,7 @@ same-length-2 c = wrote-length (c .before .before .before .loop .inv .1 .plugs-s
 returns : tie.Need-returns Inv-loop μ-loop
 returns c =
     let turn = c .before .before .before in
-    let end = found (c .before .before .next-record .ensures) (c .enum-told .given .1) in
-    (filled-boxes (room-of turn) (turn .loop .inv .1) end, filled-plugs (room-of turn) (turn .loop .inv .1) end)
+    filled-end (room-of turn) (turn .loop .inv .1) (found (c .before .before .next-record .ensures) (c .enum-told .given .1))
 
 enum-told-2 : tie.Need-enum-told-2 Inv-loop μ-loop
 enum-told-2 c = search needs

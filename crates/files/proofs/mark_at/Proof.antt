@@ -3,7 +3,7 @@ use mathlib.Core.Path.{refl}
 use Prim.Native.Nat.{_+_}
 use native.Mathlib.Omega.{arith}
 use borrow.Author.Needs.{needs}
-use Rattle.files.specs.Format.{markAt}
+use Rattle.formats.specs.Format.{markAt}
 use Rattle.files.proofs.mark_at.Statement.{statement}
 use Rattle.files.proofs.mark_at.Tie as tie
 

@@ -6,10 +6,10 @@ use mathlib.Core.Logic.{⊎-elim}
 use Prim.Native.Nat.{ℕ}
 use borrow.Author.Needs.{needs}
 use borrow.Author.Tests.{lt-ltb, le-ltb}
-use Rattle.files.specs.Format.{Kind, boxKind, plugKind, endKind, unknownKind, nextAt, kindOf}
-use Rattle.files.specs.Content.{kindFault, formFault}
+use Rattle.formats.specs.Format.{Kind, boxKind, plugKind, endKind, unknownKind, nextAt, kindOf}
+use Rattle.formats.specs.Content.{kindFault, formFault}
 use Rattle.files.specs.Steps.{recordOf, recordAt}
-use Rattle.files.proofs.Marks.{note-mark, low-mark, high-mark, record-of}
+use Rattle.files.proofs.Records.{note-mark, low-mark, high-mark, record-of}
 use Rattle.files.proofs.next_record.Statement.{statement}
 use Rattle.files.proofs.next_record.Tie as tie
 
@@ -72,8 +72,8 @@ returns-2 c = c .refused2 .ensures ∙ sym (by-kind (c .before .before .before) 
 add-whole : tie.Need-add-whole
 add-whole c = search needs
 
-add-t11 : tie.Need-add-t11
-add-t11 c = search needs
+add-t13 : tie.Need-add-t13
+add-t13 c = search needs
 
 whole-requires : tie.Need-whole-requires
 whole-requires c κs = search needs
@@ -81,8 +81,8 @@ whole-requires c κs = search needs
 add-whole-2 : tie.Need-add-whole-2
 add-whole-2 c = search needs
 
-add-t14 : tie.Need-add-t14
-add-t14 c = search needs
+add-t16 : tie.Need-add-t16
+add-t16 c = search needs
 
 whole-requires-2 : tie.Need-whole-requires-2
 whole-requires-2 c κs = search needs
@@ -137,10 +137,10 @@ next-record-spec =
     refused-requires-2
     returns-2
     add-whole
-    add-t11
+    add-t13
     whole-requires
     add-whole-2
-    add-t14
+    add-t16
     whole-requires-2
     add-if3
     add-refused

@@ -5,8 +5,8 @@ use native.Mathlib.Omega.{arith}
 use borrow.Author.Needs.{needs}
 use borrow.Author.Tests.{lt-ltb}
 use lib.ListN.{length}
-use Rattle.files.specs.Format.{byteAt, nextAt}
-use Rattle.files.specs.Content.{kindFault}
+use Rattle.formats.specs.Format.{byteAt, nextAt}
+use Rattle.formats.specs.Content.{kindFault}
 use Rattle.files.proofs.note_at.Statement.{statement}
 use Rattle.files.proofs.note_at.Tie as tie
 

@@ -6,7 +6,7 @@ use borrow.Author.Needs.{needs}
 use mir.Syntax.{w32}
 use mir.ValLaws.{toZ-ofZ}
 use Rattle.integers.proofs.Tests.{ok}
-use Rattle.files.specs.Format.{numberAt}
+use Rattle.formats.specs.Format.{numberAt}
 use Rattle.files.proofs.number_at.Statement.{statement}
 use Rattle.files.proofs.number_at.Tie as tie
 

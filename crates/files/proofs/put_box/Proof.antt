@@ -6,7 +6,7 @@ use lib.ListN.{length-set}
 use mir.Syntax.{w32}
 use mir.ValLaws.{toZ-ofZ}
 use Rattle.integers.proofs.Tests.{ok}
-use Rattle.files.specs.Format.{boxAt}
+use Rattle.formats.specs.Format.{fileBoxAt}
 use Rattle.files.proofs.Over.{four-sets}
 use Rattle.files.proofs.put_box.Statement.{statement}
 use Rattle.files.proofs.put_box.Tie as tie
@@ -69,7 +69,7 @@ same-length : tie.Need-same-length
 same-length c = search needs
 
 returns : tie.Need-returns
-unfolding boxAt
+unfolding fileBoxAt
 returns c =
     let a = c .before .before .before .before .before .args in
     four-sets (a .boxes .now) (a .to) (omega arith)

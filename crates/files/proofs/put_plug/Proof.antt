@@ -5,7 +5,7 @@ use borrow.Author.Needs.{needs}
 use mir.Syntax.{w32}
 use mir.ValLaws.{toZ-ofZ}
 use Rattle.integers.proofs.Tests.{ok}
-use Rattle.files.specs.Format.{plugAt}
+use Rattle.formats.specs.Format.{filePlugAt}
 use Rattle.files.proofs.Over.{two-sets}
 use Rattle.files.proofs.put_plug.Statement.{statement}
 use Rattle.files.proofs.put_plug.Tie as tie
@@ -38,7 +38,7 @@ same-length : tie.Need-same-length
 same-length c = search needs
 
 returns : tie.Need-returns
-unfolding plugAt
+unfolding filePlugAt
 returns c =
     let a = c .before .before .before .args in
     two-sets (a .plugs .now) (a .to) (omega arith)

@@ -1,52 +1,71 @@
--- `files::read_round` meets its contract: each return is a case of the promise, by what the judging pass said. Assumes nothing.
-use Prim.Native.Nat.{_^_, _<_}
+-- `files::read_round` meets its contract: each return is a case of the promise, by what the judging pass and the checks said. Assumes nothing.
+use mathlib.Core.Path.{_≡_, sym, _∙_, ap}
+use Prim.Native.Nat.{_*_, _^_, _<_}
 use native.Mathlib.Omega.{arith}
 use borrow.Author.Needs.{needs}
 use lib.ListN.{length}
-use Rattle.files.proofs.Reader.{Counted, counted, faulty, refused-by-form, refused-by-boxes, refused-by-plugs, has-room, was-read}
+use Rattle.rounds.specs.Refusals.{none, faultOf, _orElse_, bufferFault}
+use Rattle.files.proofs.Reader.{WellFormed, well-formed, faulty, refused-by-form, refused-by-length, has-room, was-read}
 use Rattle.files.proofs.read_round.Statement.{statement}
 use Rattle.files.proofs.read_round.Tie as tie
 
 -- the counts, where the file is well-formed, and the bound of its length
-counted-of : (c : tie.After-judged) → Counted (c .before .before .before .before .args .file .now) (c .judged .given .0 .0)
-counted-of c = counted _ (c .before .before .judge .ensures) (c .judged .given .1)
+counted : (c : tie.After-judged) → WellFormed (c .before .before .before .before .args .file .now) (c .judged .given .0 .0)
+counted c = well-formed _ (sym (c .judged .given .1) ∙ c .before .before .judge-form .ensures)
 
 long : (c : tie.After-judged) → length (c .before .before .before .before .args .file .now) < 2 ^ 64
 long c = c .before .before .before .before .good .0 .0
 
--- where the counts were told, as later places see it
-abbrev told-1 : tie.Then1 → tie.After-judged
-told-1 c = c .before .before .before
+-- where the counts were told, as the checks' answer sees it
+abbrev told : tie.After-first-refusal → tie.After-judged
+told c = c .before .before .before .before .before .before
 
-abbrev told-2 : tie.After-struct-known2 → tie.After-judged
-told-2 c = c .before .before .before .before
+-- what the checks say of both buffers
+measured : (c : tie.After-first-refusal)
+    → faultOf (c .first-refusal .result)
+    ≡ (bufferFault (4 * told c .judged .given .0 .0 .boxes) (length (told c .before .before .before .before .args .boxes .now))
+    orElse bufferFault (2 * told c .judged .given .0 .0 .plugs) (length (told c .before .before .before .before .args .plugs .now)))
+measured c = c .first-refusal .ensures ∙ (λ i. c .before .before .before .check-buffer .ensures i orElse c .before .check-buffer2 .ensures i)
 
-abbrev told-3 : tie.Else2 → tie.After-judged
-told-3 c = told-2 (c .before)
+accepted : (c : tie.After-enum-told) → faultOf (c .before .before .first-refusal .result) ≡ none
+accepted c = ap faultOf (c .enum-told .given .1)
 
-judge-requires : tie.Need-judge-requires
-judge-requires c κs = search needs
+judge-form-requires : tie.Need-judge-form-requires
+judge-form-requires c κs = search needs
 
 enum-known-judged : tie.Need-enum-known-judged
 enum-known-judged c = search needs
 
-mul-edges : tie.Need-mul-edges
-mul-edges c = omega (arith, counted-of (c .before .before), long (c .before .before))
+mul-check-buffer : tie.Need-mul-check-buffer
+mul-check-buffer c = omega (arith, counted (c .before .before) .few, long (c .before .before))
+
+check-buffer-requires : tie.Need-check-buffer-requires
+check-buffer-requires c κs = search needs
+
+mul-check-buffer-2 : tie.Need-mul-check-buffer-2
+mul-check-buffer-2 c = let d = c .before .before .before .before in omega (arith, counted d .few, long d)
+
+check-buffer-requires-2 : tie.Need-check-buffer-requires-2
+check-buffer-requires-2 c κs = search needs
+
+first-refusal-requires : tie.Need-first-refusal-requires
+first-refusal-requires c κs = search needs
+
+enum-known-measured : tie.Need-enum-known-measured
+enum-known-measured c = search needs
 
 returns : tie.Need-returns
-returns c = refused-by-boxes _ _ _ (counted-of (told-1 c)) (long (told-1 c)) (c .if1 .taken)
+returns c = let m = c .before .before .before in refused-by-length _ _ _ (counted (told m)) (measured m) (ap faultOf (c .before .measured .given .1))
 
-mul-coordinates : tie.Need-mul-coordinates
-mul-coordinates c = omega (arith, counted-of (told-2 c), long (told-2 c))
-
-returns-2 : tie.Need-returns-2
-returns-2 c = refused-by-plugs _ _ _ (counted-of (told-2 (c .before))) (long (told-2 (c .before))) (c .before .before .if1 .left) (c .if2 .taken)
+enum-told : tie.Need-enum-told
+enum-told c = search needs
 
 fill-requires : tie.Need-fill-requires
 fill-requires c κs =
     let e = c .before .before in
-    let a = told-3 e .before .before .before .before .args in
-    has-room _ (a .boxes .now) (a .plugs .now) (counted-of (told-3 e)) (e .before .before .if1 .left) (e .if2 .left)
+    let m = e .before .before in
+    let a = told m .before .before .before .before .args in
+    has-room _ (a .boxes .now) (a .plugs .now) (counted (told m)) (measured m) (accepted e)
 
 enum-known-judged-2 : tie.Need-enum-known-judged-2
 enum-known-judged-2 c = search needs
@@ -57,28 +76,33 @@ same-length c = search needs
 same-length-2 : tie.Need-same-length-2
 same-length-2 c = search needs
 
-returns-3 : tie.Need-returns-3
-returns-3 c =
+returns-2 : tie.Need-returns-2
+returns-2 c =
     let f = c .before .before in
     let e = f .before .before .before in
-    was-read _ _ _ (counted-of (told-3 e)) (e .before .before .if1 .left) (e .if2 .left) (f .fill .ensures .0) (f .fill .ensures .1)
+    let m = e .before .before in
+    was-read _ _ _ (counted (told m)) (measured m) (accepted e) (f .fill .ensures)
 
-returns-4 : tie.Need-returns-4
-returns-4 c = refused-by-form _ _ _ (faulty _ (c .before .before .before .judge .ensures) (c .before .judged2 .given .1))
+returns-3 : tie.Need-returns-3
+returns-3 c = refused-by-form _ _ _ (faulty _ (sym (c .before .judged2 .given .1) ∙ c .before .before .before .judge-form .ensures))
 
 pub read-round-spec : {M : Type 1} → statement M
 read-round-spec =
     tie.close
     (tie.spec
-    judge-requires
+    judge-form-requires
     enum-known-judged
-    mul-edges
+    mul-check-buffer
+    check-buffer-requires
+    mul-check-buffer-2
+    check-buffer-requires-2
+    first-refusal-requires
+    enum-known-measured
     returns
-    mul-coordinates
-    returns-2
+    enum-told
     fill-requires
     enum-known-judged-2
     same-length
     same-length-2
-    returns-3
-    returns-4)
+    returns-2
+    returns-3)

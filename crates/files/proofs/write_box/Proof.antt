@@ -1,17 +1,16 @@
 -- `files::write_box` meets its contract: the mark, then number after number. Assumes nothing.
-use mathlib.Core.Path.{refl}
-use mathlib.Core.List.{List, [], _∷_, _++_}
+use mathlib.Core.List.{List, _++_}
 use Prim.Native.Nat.{ℕ, _+_}
 use native.Mathlib.Omega.{arith}
 use borrow.Author.Needs.{needs}
-use lib.ListN.{set, length-set}
-use Rattle.files.specs.Format.{fourBytes, numberBytes, boxRecord}
-use Rattle.files.proofs.Over.{Wrote, wrote-length, two-sets}
-use Rattle.files.proofs.Bytes.{number-then}
+use Rattle.integers.proofs.Tests.{ok}
+use Rattle.formats.specs.Format.{boxMark, markBytes, fourBytes, numberBytes, boxRecord}
+use Rattle.files.proofs.Over.{WroteAt}
+use Rattle.files.proofs.Writer.{number-then}
 use Rattle.files.proofs.write_box.Statement.{statement}
 use Rattle.files.proofs.write_box.Tie as tie
 
--- the file and the offset, and what is written after the mark and after each number
+-- the file and the offset, and what is written after each number
 abbrev file-of : tie.Start → List ℕ
 file-of s = s .args .file .now
 
@@ -19,90 +18,95 @@ abbrev at-of : tie.Start → ℕ
 at-of s = s .args .at
 
 abbrev to-west : tie.Start → List ℕ
-to-west s = (0x5B ∷ 0x01 ∷ []) ++ numberBytes (s .args .west)
+to-west s = markBytes boxMark ++ numberBytes (s .args .b .west)
 
 abbrev to-south : tie.Start → List ℕ
-to-south s = to-west s ++ numberBytes (s .args .south)
+to-south s = to-west s ++ numberBytes (s .args .b .south)
 
 abbrev to-east : tie.Start → List ℕ
-to-east s = to-south s ++ numberBytes (s .args .east)
+to-east s = to-south s ++ numberBytes (s .args .b .east)
 
 abbrev to-north : tie.Start → List ℕ
-to-north s = to-east s ++ numberBytes (s .args .north)
+to-north s = to-east s ++ numberBytes (s .args .b .north)
 
 -- where the function began, as each call sees it
+abbrev start-mark : tie.After-write-mark → tie.Start
+start-mark c = c .before .before .before
+
 abbrev start-west : tie.After-write-number → tie.Start
-start-west c = c .before .before .before
+start-west c = start-mark (c .before .before .before .before .before)
 
 abbrev start-south : tie.After-write-number2 → tie.Start
-start-south c = start-west (c .before .before .before .before)
+start-south c = start-west (c .before .before .before .before .before)
 
 abbrev start-east : tie.After-write-number3 → tie.Start
-start-east c = start-south (c .before .before .before .before)
+start-east c = start-south (c .before .before .before .before .before)
 
 abbrev start-north : tie.After-write-number4 → tie.Start
-start-north c = start-east (c .before .before .before .before)
+start-north c = start-east (c .before .before .before .before .before)
 
 -- what is written so far, after each call
-mark-written : (c : tie.After-slice-known)
-    → Wrote (file-of (c .before)) (at-of (c .before)) (0x5B ∷ 0x01 ∷ []) (set (set (file-of (c .before)) (at-of (c .before)) 0x5B) (at-of (c .before) + 1) 0x01)
-mark-written c = two-sets (file-of (c .before)) (at-of (c .before)) (omega arith) refl refl
+mark-written : (c : tie.After-write-mark) → WroteAt (file-of (start-mark c)) (at-of (start-mark c)) (markBytes boxMark) (c .write-mark .last .1 .0)
+unfolding markBytes
+mark-written c = record { is = c .write-mark .ensures; fits = omega arith }
 
-west-written : (c : tie.After-write-number) → Wrote (file-of (start-west c)) (at-of (start-west c)) (to-west (start-west c)) (c .write-number .last .1 .0)
-unfolding numberBytes fourBytes
+west-written : (c : tie.After-write-number) → WroteAt (file-of (start-west c)) (at-of (start-west c)) (to-west (start-west c)) (c .write-number .last .1 .0)
+unfolding markBytes numberBytes fourBytes
 west-written c =
-    number-then (mark-written (c .before .before)) (at-of (start-west c) + 2) (start-west c .fits .west) (omega arith) (omega arith) (c .write-number .ensures)
+    let s = start-west c in
+    number-then (mark-written (c .before .before .before .before .before)) (at-of s + 2)
+    (ok (s .args .b .west) (c .before .struct-told .given .0 .1)) (omega arith) (omega arith) (c .write-number .ensures)
 
-south-written : (c : tie.After-write-number2) → Wrote (file-of (start-south c)) (at-of (start-south c)) (to-south (start-south c)) (c .write-number2 .last .1 .0)
-unfolding numberBytes fourBytes
+south-written : (c : tie.After-write-number2) → WroteAt (file-of (start-south c)) (at-of (start-south c)) (to-south (start-south c)) (c .write-number2 .last .1 .0)
+unfolding markBytes numberBytes fourBytes
 south-written c =
-    number-then (west-written (c .before .before .before .before)) (at-of (start-south c) + 6) (start-south c .fits .south) (omega arith) (omega arith) (c .write-number2 .ensures)
+    let s = start-south c in
+    number-then (west-written (c .before .before .before .before .before)) (at-of s + 2 + 4)
+    (ok (s .args .b .south) (c .before .struct-told2 .given .1 .0 .1)) (omega arith) (omega arith) (c .write-number2 .ensures)
 
-east-written : (c : tie.After-write-number3) → Wrote (file-of (start-east c)) (at-of (start-east c)) (to-east (start-east c)) (c .write-number3 .last .1 .0)
-unfolding numberBytes fourBytes
+east-written : (c : tie.After-write-number3) → WroteAt (file-of (start-east c)) (at-of (start-east c)) (to-east (start-east c)) (c .write-number3 .last .1 .0)
+unfolding markBytes numberBytes fourBytes
 east-written c =
-    number-then (south-written (c .before .before .before .before)) (at-of (start-east c) + 10) (start-east c .fits .east) (omega arith) (omega arith) (c .write-number3 .ensures)
+    let s = start-east c in
+    number-then (south-written (c .before .before .before .before .before)) (at-of s + 2 + 8)
+    (ok (s .args .b .east) (c .before .struct-told3 .given .1 .1 .0 .1)) (omega arith) (omega arith) (c .write-number3 .ensures)
 
-north-written : (c : tie.After-write-number4) → Wrote (file-of (start-north c)) (at-of (start-north c)) (to-north (start-north c)) (c .write-number4 .last .1 .0)
-unfolding numberBytes fourBytes
+north-written : (c : tie.After-write-number4) → WroteAt (file-of (start-north c)) (at-of (start-north c)) (to-north (start-north c)) (c .write-number4 .last .1 .0)
+unfolding markBytes numberBytes fourBytes
 north-written c =
-    number-then (east-written (c .before .before .before .before)) (at-of (start-north c) + 14) (start-north c .fits .north) (omega arith) (omega arith) (c .write-number4 .ensures)
+    let s = start-north c in
+    number-then (east-written (c .before .before .before .before .before)) (at-of s + 2 + 12)
+    (ok (s .args .b .north) (c .before .struct-told4 .given .1 .1 .1 .0 .1)) (omega arith) (omega arith) (c .write-number4 .ensures)
 
-slice-write-file : tie.Need-slice-write-file
-slice-write-file c = search needs
+write-mark-requires : tie.Need-write-mark-requires
+write-mark-requires c κs = search needs
 
-add-file : tie.Need-add-file
-add-file c = search needs
+add-from : tie.Need-add-from
+add-from c = search needs
 
-slice-write-file-2 : tie.Need-slice-write-file-2
-slice-write-file-2 c = simp length-set (omega arith)
+write-number-requires : tie.Need-write-number-requires
+write-number-requires c κs = search needs
 
 add-write-number : tie.Need-add-write-number
 add-write-number c = search needs
 
-write-number-requires : tie.Need-write-number-requires
-write-number-requires c κs = simp length-set (omega arith)
+write-number-requires-2 : tie.Need-write-number-requires-2
+write-number-requires-2 c κs = search needs
 
 add-write-number-2 : tie.Need-add-write-number-2
 add-write-number-2 c = search needs
 
-write-number-requires-2 : tie.Need-write-number-requires-2
-write-number-requires-2 c κs = omega (arith, wrote-length (west-written (c .before .before .before)))
+write-number-requires-3 : tie.Need-write-number-requires-3
+write-number-requires-3 c κs = search needs
 
 add-write-number-3 : tie.Need-add-write-number-3
 add-write-number-3 c = search needs
 
-write-number-requires-3 : tie.Need-write-number-requires-3
-write-number-requires-3 c κs = omega (arith, wrote-length (south-written (c .before .before .before)))
-
-add-write-number-4 : tie.Need-add-write-number-4
-add-write-number-4 c = search needs
-
 write-number-requires-4 : tie.Need-write-number-requires-4
-write-number-requires-4 c κs = omega (arith, wrote-length (east-written (c .before .before .before)))
+write-number-requires-4 c κs = search needs
 
 same-length : tie.Need-same-length
-same-length c = wrote-length (north-written (c .before .before))
+same-length c = search needs
 
 returns : tie.Need-returns
 unfolding boxRecord
@@ -112,16 +116,14 @@ pub write-box-spec : {M : Type 1} → statement M
 write-box-spec =
     tie.close
     (tie.spec
-    slice-write-file
-    add-file
-    slice-write-file-2
-    add-write-number
+    write-mark-requires
+    add-from
     write-number-requires
-    add-write-number-2
+    add-write-number
     write-number-requires-2
-    add-write-number-3
+    add-write-number-2
     write-number-requires-3
-    add-write-number-4
+    add-write-number-3
     write-number-requires-4
     same-length
     returns)

@@ -7,7 +7,7 @@ use lib.ListN.{length-set}
 use mir.Syntax.{w32}
 use mir.Val.{ofZ}
 use mir.ValLaws.{toZ-ofZ}
-use Rattle.files.specs.Format.{fourBytes, numberBytes}
+use Rattle.formats.specs.Format.{fourBytes, numberBytes}
 use Rattle.files.proofs.Over.{four-sets}
 use Rattle.files.proofs.write_number.Statement.{statement}
 use Rattle.files.proofs.write_number.Tie as tie

@@ -7,16 +7,16 @@ use lib.ListN.{length}
 use Rattle.integers.proofs.Tests.{elem}
 use Rattle.rounds.specs.Boxes.{plugsOf}
 use Rattle.rounds.proofs.Rows.{plugAt}
-use Rattle.files.specs.Format.{plugRecord}
+use Rattle.formats.specs.Format.{plugLength, plugRecord}
 use Rattle.files.specs.Steps.{over}
 use Rattle.files.proofs.Over.{Sofar, sofar-none, sofar-all, wrote-length}
-use Rattle.files.proofs.Writer.{plugRecords, no-plug, plugRows, row-turn, plug-plain}
+use Rattle.files.proofs.Writer.{plugRecords, no-plug, plugEncoding, row-turn, plug-plain}
 use Rattle.files.proofs.write_plugs.Statement.{statement}
 use Rattle.files.proofs.write_plugs.Tie as tie
 
 abbrev Inv-loop : tie.InvT-loop
 Inv-loop plugs file₀ at count k₀ file k =
-    (k ≤ length plugs / 2) × Sofar file₀ at (flatMap plugRecord (plugsOf plugs)) (plugRecords plugs (k * 2)) (at + k * 10) file
+    (k ≤ length plugs / 2) × Sofar file₀ at (flatMap plugRecord (plugsOf plugs)) (plugRecords plugs (k * 2)) (at + k * plugLength) file
 
 abbrev μ-loop : tie.MeasureT-loop
 μ-loop plugs file₀ at count k₀ file k = length plugs / 2 - k
@@ -26,7 +26,7 @@ abbrev turn : tie.After-write-plug Inv-loop μ-loop → tie.At-loop Inv-loop μ-
 turn c = c .before .before .before .before .before
 
 abbrev at-of : tie.After-write-plug Inv-loop μ-loop → ℕ
-at-of c = turn c .before .before .args .at + turn c .loop .k * 10
+at-of c = turn c .before .before .args .at + turn c .loop .k * plugLength
 
 -- what the callee wrote
 plug-written : (c : tie.After-write-plug Inv-loop μ-loop)
@@ -41,7 +41,7 @@ plug-written c =
 loop-holds : tie.Need-loop-holds Inv-loop μ-loop
 loop-holds c =
     let a = c .before .args in
-    let e : a .at ≡ a .at + 0 * 10 = omega arith in
+    let e : a .at ≡ a .at + 0 * plugLength = omega arith in
     (omega arith, rw (← e) (sofar-none (a .file .now) (a .at) _ (omega arith)))
 
 mul-from : tie.Need-mul-from Inv-loop μ-loop
@@ -80,7 +80,7 @@ loop-less c = omega arith
 loop-again : tie.Need-loop-again Inv-loop μ-loop
 loop-again c =
     let w = c .before .before in
-    (omega arith, row-turn plugRows (turn w .before .before .args .plugs .now) (turn w .loop .k) (turn w .loop .inv .1) (omega arith) (omega arith) (omega arith) (plug-written w))
+    (omega arith, row-turn plugEncoding (turn w .before .before .args .plugs .now) (turn w .loop .k) (turn w .loop .inv .1) (omega arith) (omega arith) (omega arith) (plug-written w))
 
 same-length : tie.Need-same-length Inv-loop μ-loop
 same-length c = wrote-length (c .before .loop .inv .1 .wrote)

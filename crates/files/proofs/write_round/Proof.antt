@@ -1,57 +1,69 @@
 -- `files::write_round` meets its contract: each return is a case of the promise, by what the checks said. Assumes nothing.
-use mathlib.Core.Path.{_≡_, refl, sym, _∙_, ap}
-use Prim.Native.Nat.{_^_, _<_}
+use mathlib.Core.Path.{_≡_, sym, _∙_, ap}
+use Prim.Native.Nat.{_^_, _<_, _≤_}
 use native.Mathlib.Omega.{arith}
 use borrow.Author.Needs.{needs}
-use lib.ListN.{length-set}
-use Rattle.rounds.specs.Refusals.{none, faultOf, boxListFault, plugListFault}
-use Rattle.files.specs.Promises.{byteCount}
-use Rattle.files.proofs.Faults.{whole-boxes}
-use Rattle.files.proofs.Over.{wrote-length}
-use Rattle.files.proofs.Written.{refused-by-boxes, refused-by-plugs, refused-by-length, plugs-written, was-written}
+use lib.ListN.{length}
+use Rattle.rounds.specs.Refusals.{none, faultOf, _orElse_, boxListFault, plugListFault, bufferFault}
+use Rattle.rounds.proofs.Accepted.{or-else-none, accepted}
+use Rattle.formats.specs.Promises.{byteCount}
+use Rattle.files.proofs.Buffers.{fits-buffer}
+use Rattle.files.proofs.Written.{refused-by-lists, refused-by-length, was-written}
 use Rattle.files.proofs.write_round.Statement.{statement}
 use Rattle.files.proofs.write_round.Tie as tie
 
--- where the function began, as the accepted lists see it
-abbrev start : tie.After-enum-told2 → tie.Start
-start c = c .before .before .before .before .before .before .before
+-- where the function began
+abbrev start : tie.After-first-refusal → tie.Start
+start c = c .before .before .before .before
 
--- what was accepted, and so the byte count fits
-boxes-accepted : (c : tie.After-enum-told) → boxListFault (c .before .before .before .before .args .boxes .now) ≡ none
-boxes-accepted c = sym (c .before .before .check-boxes .ensures) ∙ ap faultOf (c .enum-told .given .1)
+-- what the checks say of both lists, and what accepted lists are
+listed : (c : tie.After-first-refusal)
+    → faultOf (c .first-refusal .result) ≡ (boxListFault (start c .args .boxes .now) orElse plugListFault (start c .args .plugs .now))
+listed c = c .first-refusal .ensures ∙ (λ i. c .before .before .check-boxes .ensures i orElse c .before .check-plugs .ensures i)
 
-plugs-accepted : (c : tie.After-enum-told2) → plugListFault (start c .args .plugs .now) ≡ none
-plugs-accepted c = sym (c .before .before .check-plugs .ensures) ∙ ap faultOf (c .enum-told2 .given .1)
+abbrev start-accepted : tie.After-enum-told → tie.Start
+start-accepted c = start (c .before .before)
 
-count-fits : (c : tie.After-enum-told2) → byteCount (start c .args .boxes .now) (start c .args .plugs .now) < 2 ^ 64
+lists-accepted : (c : tie.After-enum-told) → (boxListFault (start-accepted c .args .boxes .now) orElse plugListFault (start-accepted c .args .plugs .now)) ≡ none
+lists-accepted c = sym (listed (c .before .before)) ∙ ap faultOf (c .enum-told .given .1)
+
+-- so the byte count fits
+count-fits : (c : tie.After-enum-told) → byteCount (start-accepted c .args .boxes .now) (start-accepted c .args .plugs .now) < 2 ^ 64
 unfolding byteCount
-count-fits c = omega (arith, whole-boxes (start c .args .boxes .now) (boxes-accepted (c .before .before .before)))
+count-fits c =
+    let a = start-accepted c .args in
+    omega (arith, accepted (a .boxes .now) (or-else-none (boxListFault (a .boxes .now)) (plugListFault (a .plugs .now)) (lists-accepted c) .0) .few)
+
+-- what an accepted buffer is
+abbrev lists-of : tie.After-enum-told2 → tie.After-enum-told
+lists-of c = c .before .before .before
+
+file-accepted : (c : tie.After-enum-told2)
+    → bufferFault (byteCount (start-accepted (lists-of c) .args .boxes .now) (start-accepted (lists-of c) .args .plugs .now)) (length (start-accepted (lists-of c) .args .file .now)) ≡ none
+unfolding byteCount
+file-accepted c = sym (c .before .before .check-buffer .ensures) ∙ ap faultOf (c .enum-told2 .given .1)
+
+has-room : (c : tie.After-enum-told2)
+    → byteCount (start-accepted (lists-of c) .args .boxes .now) (start-accepted (lists-of c) .args .plugs .now) ≤ length (start-accepted (lists-of c) .args .file .now)
+has-room c = fits-buffer _ _ (file-accepted c)
 
 check-boxes-requires : tie.Need-check-boxes-requires
 check-boxes-requires c κs = search needs
 
-enum-known-checked : tie.Need-enum-known-checked
-enum-known-checked c = search needs
-
-returns : tie.Need-returns
-returns c = refused-by-boxes _ _ _ (sym (c .before .before .before .check-boxes .ensures) ∙ ap faultOf (c .before .checked .given .1))
-
-enum-told : tie.Need-enum-told
-enum-told c = search needs
-
 check-plugs-requires : tie.Need-check-plugs-requires
 check-plugs-requires c κs = search needs
+
+first-refusal-requires : tie.Need-first-refusal-requires
+first-refusal-requires c κs = search needs
 
 enum-known-listed : tie.Need-enum-known-listed
 enum-known-listed c = search needs
 
-returns-2 : tie.Need-returns-2
-returns-2 c =
-    refused-by-plugs _ _ _ (boxes-accepted (c .before .before .before .before))
-    (sym (c .before .before .before .check-plugs .ensures) ∙ ap faultOf (c .before .listed .given .1))
+returns : tie.Need-returns
+returns c = refused-by-lists _ _ _ (sym (listed (c .before .before .before)) ∙ ap faultOf (c .before .listed .given .1))
 
-enum-told-2 : tie.Need-enum-told-2
-enum-told-2 c = search needs
+enum-told : tie.Need-enum-told
+enum-told c = search needs
 
 mul-after-boxes : tie.Need-mul-after-boxes
 mul-after-boxes c = search needs
@@ -67,63 +79,65 @@ add-needed : tie.Need-add-needed
 unfolding byteCount
 add-needed c = omega (arith, count-fits c)
 
-returns-3 : tie.Need-returns-3
+check-buffer-requires : tie.Need-check-buffer-requires
+check-buffer-requires c κs = search needs
+
+enum-known-measured : tie.Need-enum-known-measured
+enum-known-measured c = search needs
+
+returns-2 : tie.Need-returns-2
 unfolding byteCount
-returns-3 c = refused-by-length _ _ _ (boxes-accepted (c .before .before .before .before)) (plugs-accepted (c .before)) refl (count-fits (c .before)) (c .if1 .taken)
+returns-2 c =
+    let m = c .before .before .before in
+    refused-by-length _ _ _ (lists-accepted (m .before)) (sym (m .check-buffer .ensures) ∙ ap faultOf (c .before .measured .given .1))
+
+enum-told-2 : tie.Need-enum-told-2
+enum-told-2 c = search needs
 
 write-boxes-requires : tie.Need-write-boxes-requires
-write-boxes-requires c κs = search needs
+unfolding byteCount
+write-boxes-requires c κs = omega (arith, has-room (c .before))
 
 write-plugs-requires : tie.Need-write-plugs-requires
-write-plugs-requires c κs = search needs
+unfolding byteCount
+write-plugs-requires c κs = omega (arith, has-room (c .before .before .before .before .before))
 
-slice-write-file : tie.Need-slice-write-file
-slice-write-file c = search needs
-
-add-file : tie.Need-add-file
-add-file c = search needs
-
-slice-write-file-2 : tie.Need-slice-write-file-2
-slice-write-file-2 c = simp length-set (omega arith)
+write-mark-requires : tie.Need-write-mark-requires
+unfolding byteCount
+write-mark-requires c κs = (omega arith, omega (arith, has-room (c .before .before .before .before .before .before .before .before .before)))
 
 same-length : tie.Need-same-length
-same-length c =
-    let p = c .before .before in
-    let b = p .before .before .before .before in
-    let e = b .before .before in
-    let a = start (e .before) .args in
-    simp length-set
-    (wrote-length (plugs-written (a .boxes .now) (a .plugs .now) (a .file .now) (e .if1 .left) (b .write-boxes .ensures) (p .write-plugs .ensures)))
+same-length c = search needs
 
-returns-4 : tie.Need-returns-4
+returns-3 : tie.Need-returns-3
 unfolding byteCount
-returns-4 c =
-    let p = c .before .before in
+returns-3 c =
+    let m = c .before .before in
+    let p = m .before .before .before .before in
     let b = p .before .before .before .before in
     let e = b .before .before in
-    was-written _ _ _ (e .if1 .left) (b .write-boxes .ensures) (p .write-plugs .ensures) (boxes-accepted (e .before .before .before .before)) (plugs-accepted (e .before)) refl
+    was-written _ _ _ (has-room e) (b .write-boxes .ensures) (p .write-plugs .ensures) (m .write-mark .ensures) (lists-accepted (lists-of e)) (file-accepted e)
 
 pub write-round-spec : {M : Type 1} → statement M
 write-round-spec =
     tie.close
     (tie.spec
     check-boxes-requires
-    enum-known-checked
+    check-plugs-requires
+    first-refusal-requires
+    enum-known-listed
     returns
     enum-told
-    check-plugs-requires
-    enum-known-listed
-    returns-2
-    enum-told-2
     mul-after-boxes
     mul-after-plugs
     add-after-plugs
     add-needed
-    returns-3
+    check-buffer-requires
+    enum-known-measured
+    returns-2
+    enum-told-2
     write-boxes-requires
     write-plugs-requires
-    slice-write-file
-    add-file
-    slice-write-file-2
+    write-mark-requires
     same-length
-    returns-4)
+    returns-3)

@@ -4,13 +4,14 @@ use Prim.Native.Nat.{_+_, _-_, _≤_}
 use native.Mathlib.Omega.{arith}
 use lib.ListN.{length, length-set}
 use Rattle.sorting.specs.Order.{get}
-use Rattle.hulls.specs.Mirrors.{flip, Appended}
-use Rattle.hulls.proofs.Mirroring.{key-most, append-more}
+use Rattle.turns.specs.Reflection.{reflected}
+use Rattle.hulls.specs.Halves.{Appended}
+use Rattle.hulls.proofs.Mirroring.{append-more}
 use Rattle.hulls.proofs.append_reflected.Statement.{statement}
 use Rattle.hulls.proofs.append_reflected.Tie as tie
 
 abbrev Inv-loop : tie.InvT-loop
-Inv-loop lower count vertices₀ at i₀ vertices i = (i ≤ count) × ((length vertices ≡ length vertices₀) × Appended flip (get vertices₀) (get vertices) (get lower) at i)
+Inv-loop lower count vertices₀ at i₀ vertices i = (i ≤ count) × ((length vertices ≡ length vertices₀) × Appended reflected (get vertices₀) (get vertices) (get lower) at i)
 
 abbrev μ-loop : tie.MeasureT-loop
 μ-loop lower count vertices₀ at i₀ vertices i = count - i
@@ -18,23 +19,20 @@ abbrev μ-loop : tie.MeasureT-loop
 loop-holds : tie.Need-loop-holds Inv-loop μ-loop
 loop-holds c = (omega arith, (refl, record { before = λ j h. refl; after = λ i h. absurd (omega arith) }))
 
-mul-vertices : tie.Need-mul-vertices Inv-loop μ-loop
-mul-vertices c = omega arith
+mul-reflected : tie.Need-mul-reflected Inv-loop μ-loop
+mul-reflected c = omega arith
 
-shared-slice-read-vertices : tie.Need-shared-slice-read-vertices Inv-loop μ-loop
-shared-slice-read-vertices c = omega arith
+shared-slice-read-reflected : tie.Need-shared-slice-read-reflected Inv-loop μ-loop
+shared-slice-read-reflected c = omega arith
 
-sub-vertices : tie.Need-sub-vertices Inv-loop μ-loop
-sub-vertices c =
-    let s = c .before .before .before in
-    let l = c .before .before .loop in
-    omega (arith, key-most (s .pre .1 .key (l .i) (omega arith)))
+reflected-requires : tie.Need-reflected-requires Inv-loop μ-loop
+reflected-requires c κs = c .before .before .before .before .before .pre .1 .key (c .before .before .loop .i) (omega arith)
 
 add-vertices : tie.Need-add-vertices Inv-loop μ-loop
 add-vertices c = omega arith
 
-mul-vertices-2 : tie.Need-mul-vertices-2 Inv-loop μ-loop
-mul-vertices-2 c = omega arith
+mul-vertices : tie.Need-mul-vertices Inv-loop μ-loop
+mul-vertices c = omega arith
 
 slice-write-vertices : tie.Need-slice-write-vertices Inv-loop μ-loop
 slice-write-vertices c = omega arith
@@ -47,12 +45,13 @@ loop-less c = omega arith
 
 loop-again : tie.Need-loop-again Inv-loop μ-loop
 loop-again c =
-    let l = c .before .before .loop in
-    let s = c .before .before .before in (
+    let l = c .before .before .before .loop in
+    let s = c .before .before .before .before .before .before in (
       omega arith,
       (
         length-set (l .vertices) (s .args .at + l .i) _ ∙ l .inv .1 .0,
-        append-more flip (s .args .lower .now) (s .args .vertices .now) (l .vertices) (s .args .at) (l .i) (omega arith) (l .inv .1 .1),
+        append-more reflected (s .args .lower .now) (s .args .vertices .now) (l .vertices) (s .args .at) (l .i) (c .reflected .result) (c .reflected .ensures) (omega arith)
+            (l .inv .1 .1),
       ),
     )
 
@@ -62,9 +61,9 @@ same-length c = c .before .loop .inv .1 .0
 returns : tie.Need-returns Inv-loop μ-loop
 returns c =
     let l = c .before .loop in
-    let s = c .before .before in
+    let s = c .before .before .before .before in
     let e : l .i ≡ s .args .count = omega arith in
-    subst (λ k. Appended flip (get (s .args .vertices .now)) (get (l .vertices)) (get (s .args .lower .now)) (s .args .at) k) e (l .inv .1 .1)
+    subst (λ k. Appended reflected (get (s .args .vertices .now)) (get (l .vertices)) (get (s .args .lower .now)) (s .args .at) k) e (l .inv .1 .1)
 
 pub append-reflected-spec : {M : Type 1} → statement M
 append-reflected-spec =
@@ -73,11 +72,11 @@ append-reflected-spec =
     Inv-loop
     μ-loop
     loop-holds
-    mul-vertices
-    shared-slice-read-vertices
-    sub-vertices
+    mul-reflected
+    shared-slice-read-reflected
+    reflected-requires
     add-vertices
-    mul-vertices-2
+    mul-vertices
     slice-write-vertices
     add-i
     loop-less

@@ -21,7 +21,7 @@ same-length-2 c = search needs
 
 returns : tie.Need-returns
 returns c =
-    let s = c .before .before .before .before .before .before .before in
+    let s = c .before .before .before .before .before .before in
     let f = c .before .find-ends in
     made-one (s .args .keys .now) _ (f .result .first) (f .result .last) (s .pre .0 .0) (simp length-set (omega (arith, s .pre .0))) (s .pre .1) (f .ensures) (c .if1 .taken)
     (getD-set-same (s .args .vertices .now) 0 (f .result .first) 0 (omega (arith, s .pre .0)))
@@ -37,9 +37,6 @@ same-length-4 c = search needs
 
 same-length-5 : tie.Need-same-length-5
 same-length-5 c = search needs
-
-same-length-6 : tie.Need-same-length-6
-same-length-6 c = search needs
 
 returns-2 : tie.Need-returns-2
 returns-2 c = search needs
@@ -57,5 +54,4 @@ polygon-spec =
     same-length-3
     same-length-4
     same-length-5
-    same-length-6
     returns-2)

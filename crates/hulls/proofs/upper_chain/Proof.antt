@@ -8,8 +8,8 @@ use native.Mathlib.Omega.{arith}
 use lib.ListN.{length, set, length-set}
 use lib.Seq.{getD-set-same}
 use Rattle.sorting.specs.Order.{get, Sorted}
-use Rattle.turns.specs.Keys.{Key}
-use Rattle.hulls.specs.Chains.{Keys, Chain, Popped}
+use Rattle.turns.specs.Keys.{Key, AllKeys}
+use Rattle.hulls.specs.Chains.{Chain, Popped}
 use Rattle.hulls.specs.Halves.{Amid, framed}
 use Rattle.hulls.proofs.Chaining.{chain-keys, single, next}
 use Rattle.hulls.proofs.Framing.{framed-at, framed-last, framed-keys, framed-above, framed-sorted}
@@ -17,7 +17,7 @@ use Rattle.hulls.proofs.upper_chain.Statement.{statement}
 use Rattle.hulls.proofs.upper_chain.Tie as tie
 
 module _ (first : ℕ) (keys : List ℕ) (last : ℕ) (stack : List ℕ) (m k : ℕ) (ch : Chain (framed first keys last) (suc m) (get stack) k) (room : length keys + 2 ≤ length stack) where
-  vertices : m ≤ length keys → Key first × Keys (get keys) (length keys) × Key last → Keys (get stack) k
+  vertices : m ≤ length keys → Key first × AllKeys (get keys) (length keys) × Key last → AllKeys (get stack) k
   vertices l ks = chain-keys (framed-keys first keys last (ks .0) (ks .1) (ks .2)) (omega arith) ch
 
   step : (n r : ℕ) → first < last → Sorted (get keys) 0 (length keys) × Amid (get keys) (length keys) first last → m ≤ length keys → r ≡ framed first keys last (suc m)

@@ -7,7 +7,7 @@ use borrow.Author.Needs.{needs}
 use lib.ListN.{length, take, drop}
 use Rattle.rounds.specs.Boxes.{boxesOf, cornersOf}
 use Rattle.rounds.specs.declared.Corner.the-variants.{SouthWest, SouthEast, NorthEast, NorthWest}
-use Rattle.outlines.specs.Corners.{KeysOf}
+use Rattle.outlines.specs.KeyLists.{KeysOf}
 use Rattle.outlines.proofs.Filling.{two-length, keys-append, part-length}
 use Rattle.outlines.proofs.put_all_corners.Statement.{statement}
 use Rattle.outlines.proofs.put_all_corners.Tie as tie

@@ -4,7 +4,7 @@ use Prim.Native.Nat.{_/_, _-_, _≤_}
 use native.Mathlib.Omega.{arith}
 use lib.ListN.{length, length-set}
 use Rattle.rounds.specs.Boxes.{boxesOf, cornersOf}
-use Rattle.corners.proofs.Edges.{corners-length}
+use Rattle.corners.proofs.Places.{corners-length}
 use Rattle.outlines.proofs.Filling.{Filled, filled-none, filled-more, filled-keys}
 use Rattle.outlines.proofs.put_corner_keys.Statement.{statement}
 use Rattle.outlines.proofs.put_corner_keys.Tie as tie

@@ -4,7 +4,7 @@ use Prim.Native.Nat.{_/_, _-_}
 use native.Mathlib.Omega.{arith}
 use borrow.Author.Needs.{needs}
 use lib.ListN.{length, drop}
-use Rattle.corners.proofs.Edges.{corners-length}
+use Rattle.corners.proofs.Places.{corners-length}
 use Rattle.outlines.proofs.Filling.{keys-append, part-length}
 use Rattle.outlines.proofs.put_two_corners.Statement.{statement}
 use Rattle.outlines.proofs.put_two_corners.Tie as tie

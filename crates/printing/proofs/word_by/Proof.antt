@@ -6,10 +6,8 @@ use mir.ValLaws.{toZ-ofZ}
 use Rattle.plane.specs.Points.{Point, point}
 use Rattle.turns.specs.Keys.{pointOf}
 use Rattle.rounds.specs.Refusals.{none, faultOf, plugFault}
-use Rattle.rounds.specs.Replies.{result}
 use Rattle.rounds.proofs.Accepted.{plug-accepted}
-use Rattle.words.specs.Words.{wordFor}
-use Rattle.printing.proofs.Answers.{word-refused, word-told}
+use Rattle.printing.proofs.Answers.{word-refused, word-given}
 use Rattle.printing.proofs.word_by.Statement.{statement}
 use Rattle.printing.proofs.word_by.Tie as tie
 
@@ -18,15 +16,15 @@ abbrev plug : tie.Start → Point
 plug s = point (s .args .east) (s .args .north)
 
 -- what the check says of it
-is-checked : (c : tie.After-check-plug) → faultOf (c .check-plug .result) ≡ plugFault 1 (plug (c .before .before .before .before .before .before))
+is-checked : (c : tie.After-check-plug) → faultOf (c .check-plug .result) ≡ plugFault 1 (plug (c .before .before))
 is-checked c = c .check-plug .ensures ∙ search needs
 
 -- nothing turns it back
-is-accepted : (c : tie.After-enum-told) → plugFault 1 (plug (c .before .before .before .before .before .before .before .before)) ≡ none
+is-accepted : (c : tie.After-enum-told) → plugFault 1 (plug (c .before .before .before .before)) ≡ none
 is-accepted c = sym (is-checked (c .before .before)) ∙ ap faultOf (c .enum-told .given .1)
 
 -- the key is that of the plug
-is-plug : (c : tie.After-key-of) → pointOf (c .key-of .result) ≡ plug (c .before .before .before .before .before .before .before .before .before)
+is-plug : (c : tie.After-key-of) → pointOf (c .key-of .result) ≡ plug (c .before .before .before .before .before)
 is-plug c = c .key-of .ensures .is ∙ search needs
 
 check-plug-requires : tie.Need-check-plug-requires
@@ -36,44 +34,23 @@ enum-known-checked : tie.Need-enum-known-checked
 enum-known-checked c = search needs
 
 returns : tie.Need-returns
-returns c = word-refused _ _ _ _ _ _ _ (sym (is-checked (c .before .before .before)) ∙ ap faultOf (c .before .checked .given .1))
+returns c = word-refused _ _ _ _ (sym (is-checked (c .before .before .before)) ∙ ap faultOf (c .before .checked .given .1))
 
 enum-told : tie.Need-enum-told
 enum-told c = search needs
 
 key-of-requires : tie.Need-key-of-requires
 key-of-requires c κs =
-    let s = c .before .before .before .before .before .before .before .before in
+    let s = c .before .before .before .before in
     rw (toZ-ofZ w32 _ (s .fits .east), toZ-ofZ w32 _ (s .fits .north)) (plug-accepted 1 (plug s) (is-accepted c))
 
 word-in-requires : tie.Need-word-in-requires
 word-in-requires c κs =
-    let s = c .before .before .before .before .before .before .before .before .before in
+    let s = c .before .before .before .before .before in
     s .pre .keys (c .key-of .result) (c .key-of .ensures .key)
 
-enum-told-2 : tie.Need-enum-told-2
-enum-told-2 c = search needs
-
-enum-told-3 : tie.Need-enum-told-3
-enum-told-3 c = search needs
-
-enum-told-4 : tie.Need-enum-told-4
-enum-told-4 c = search needs
-
 returns-2 : tie.Need-returns-2
-returns-2 c =
-    let d = c .before .before in
-    word-told _ _ _ _ _ _ (is-accepted (d .before .before)) (is-plug (d .before)) (d .word-in .ensures) (ap (λ r. result (wordFor r)) (c .enum-told2 .given .1))
-
-returns-3 : tie.Need-returns-3
-returns-3 c =
-    let d = c .before .before in
-    word-told _ _ _ _ _ _ (is-accepted (d .before .before)) (is-plug (d .before)) (d .word-in .ensures) (ap (λ r. result (wordFor r)) (c .enum-told3 .given .1))
-
-returns-4 : tie.Need-returns-4
-returns-4 c =
-    let d = c .before .before in
-    word-told _ _ _ _ _ _ (is-accepted (d .before .before)) (is-plug (d .before)) (d .word-in .ensures) (ap (λ r. result (wordFor r)) (c .enum-told4 .given .1))
+returns-2 c = word-given _ _ _ (is-accepted (c .before .before)) (is-plug (c .before)) (c .word-in .ensures)
 
 pub word-by-spec : {M : Type 1} → statement M
 word-by-spec =
@@ -85,9 +62,4 @@ word-by-spec =
     enum-told
     key-of-requires
     word-in-requires
-    enum-told-2
-    enum-told-3
-    enum-told-4
-    returns-2
-    returns-3
-    returns-4)
+    returns-2)

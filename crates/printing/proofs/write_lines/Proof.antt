@@ -6,31 +6,34 @@ use borrow.Author.Needs.{needs}
 use lib.ListN.{length}
 use Rattle.plane.specs.Points.{Point}
 use Rattle.rounds.proofs.Rows.{plugAt}
-use Rattle.printing.specs.Steps.{WordBy}
+use Rattle.printing.specs.Steps.{mostPlugLine, WordBy}
 use Rattle.printing.proofs.Writing.{wrote-as}
 use Rattle.printing.proofs.Lines.{Sofar, sofar-none, sofar-length, sofar-room, sofar-part, sofar-more, sofar-all}
 use Rattle.printing.proofs.write_lines.Statement.{statement}
 use Rattle.printing.proofs.write_lines.Tie as tie
 
 abbrev Inv-loop : tie.InvT-loop
-Inv-loop outer sw se ne nw plugs out₀ count done₀ k₀ out done k = Sofar outer sw se ne nw plugs out₀ k done out
+Inv-loop vertices counts plugs out₀ count done₀ k₀ out done k = Sofar vertices counts plugs out₀ k done out
 
 abbrev μ-loop : tie.MeasureT-loop
-μ-loop outer sw se ne nw plugs out₀ count done₀ k₀ out done k = length plugs / 2 - k
+μ-loop vertices counts plugs out₀ count done₀ k₀ out done k = length plugs / 2 - k
+
+abbrev entry : tie.In-loop Inv-loop μ-loop → tie.Start Inv-loop μ-loop
+entry d = d .before .before .before .before
 
 -- there is room for one line more
-room : (d : tie.In-loop Inv-loop μ-loop) → d .before .loop .done + 15 ≤ length (d .before .loop .out)
-room d = sofar-room _ _ _ _ _ _ _ (d .before .before .before .before .before .before .before .before .pre .1) (d .before .loop .inv) (d .loop-test .taken)
+room : (d : tie.In-loop Inv-loop μ-loop) → d .before .loop .done + mostPlugLine ≤ length (d .before .loop .out)
+room d = sofar-room _ _ _ _ (entry d .pre .1) (d .before .loop .inv) (d .loop-test .taken)
 
 -- what the callee says of the plug
 abbrev Word : (c : tie.After-word-by Inv-loop μ-loop) → Point → Type 0
-Word c p = let a = c .before .before .before .before .before .before .before .before .before .before .before .args in WordBy (a .outer .now) (a .sw .now) (a .se .now) (a .ne .now) (a .nw .now) p (c .word-by .result)
+Word c p = let a = entry (c .before .before .before) .args in WordBy (a .vertices .now) (a .counts) p (c .word-by .result)
 
-is-word : (c : tie.After-word-by Inv-loop μ-loop) → Word c (plugAt (c .before .before .before .before .before .before .before .before .before .before .before .args .plugs .now) (c .before .before .before .before .loop .k * 2))
+is-word : (c : tie.After-word-by Inv-loop μ-loop) → Word c (plugAt (entry (c .before .before .before) .args .plugs .now) (c .before .before .before .before .loop .k * 2))
 is-word c = subst (Word c) (search needs) (c .word-by .ensures)
 
 loop-holds : tie.Need-loop-holds Inv-loop μ-loop
-loop-holds c = let s = c .before .before .before .before .before .before in sofar-none _ _ _ _ _ _ _ (s .pre .1)
+loop-holds c = let s = c .before .before in sofar-none _ _ _ _ (s .pre .1)
 
 mul-at : tie.Need-mul-at Inv-loop μ-loop
 mul-at c = omega arith
@@ -51,7 +54,7 @@ shared-slice-copy-out-word-by-2 : tie.Need-shared-slice-copy-out-word-by-2 Inv-l
 shared-slice-copy-out-word-by-2 c = omega arith
 
 word-by-requires : tie.Need-word-by-requires Inv-loop μ-loop
-word-by-requires c κs = c .before .before .before .before .before .before .before .before .before .before .pre .0
+word-by-requires c κs = entry (c .before .before) .pre .0
 
 add-write-plug-line : tie.Need-add-write-plug-line Inv-loop μ-loop
 add-write-plug-line c = omega arith
@@ -68,17 +71,17 @@ part-write-plug-line-end c = search needs
 write-plug-line-requires : tie.Need-write-plug-line-requires Inv-loop μ-loop
 write-plug-line-requires c κs =
     let d = c .before .before .before .before in
-    sofar-part _ _ _ _ _ _ _ (d .before .before .before .before .before .before .before .before .pre .1) (d .before .loop .inv) (d .loop-test .taken)
+    sofar-part _ _ _ _ (entry d .pre .1) (d .before .loop .inv) (d .loop-test .taken)
 
 loop-again : tie.Need-loop-again Inv-loop μ-loop
 loop-again c =
     let d = c .before .before .before .before .before .before .before in
     let w = c .before .before .write-plug-line in
-    sofar-more _ _ _ _ _ _ _ (d .before .before .before .before .before .before .before .before .pre .1) (d .before .loop .inv) (d .loop-test .taken) (is-word (c .before .before .before .before)) (w .ensures)
+    sofar-more _ _ _ _ (entry d .pre .1) (d .before .loop .inv) (d .loop-test .taken) (is-word (c .before .before .before .before)) (w .ensures)
 
 add-done : tie.Need-add-done Inv-loop μ-loop
 add-done c =
-    let s = c .before .before .before .before .before .before .before .before .before .before .before .before .before .before .before in
+    let s = entry (c .before .before .before .before .before .before .before) in
     omega (arith, loop-again c .few, loop-again c .within, s .pre .1 .numbers)
 
 add-k : tie.Need-add-k Inv-loop μ-loop
@@ -89,13 +92,13 @@ loop-less c = omega arith
 
 same-length : tie.Need-same-length Inv-loop μ-loop
 same-length c =
-    let s = c .before .before .before .before .before .before .before .before in
-    sofar-length _ _ _ _ _ _ _ (s .pre .1) (c .before .loop .inv)
+    let s = c .before .before .before .before in
+    sofar-length _ _ _ _ (s .pre .1) (c .before .loop .inv)
 
 returns : tie.Need-returns Inv-loop μ-loop
 returns c =
-    let s = c .before .before .before .before .before .before .before .before in
-    record { says = λ bs os f. wrote-as (sofar-all _ _ _ _ _ _ _ (s .pre .1) (c .before .loop .inv) (c .loop-test .left) bs os f) (c .before .loop .inv .wrote) }
+    let s = c .before .before .before .before in
+    record { says = λ bs os f. wrote-as (sofar-all _ _ _ _ (s .pre .1) (c .before .loop .inv) (c .loop-test .left) bs os f) (c .before .loop .inv .wrote) }
 
 pub write-lines-spec : {M : Type 1} → statement M
 write-lines-spec =

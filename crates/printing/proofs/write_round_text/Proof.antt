@@ -5,24 +5,33 @@ use native.Mathlib.Omega.{arith}
 use borrow.Author.Needs.{needs}
 use lib.ListN.{length}
 use Rattle.rounds.specs.Refusals.{none, faultOf, boxListFault}
+use Rattle.rounds.proofs.Accepted.{accepted}
 use Rattle.printing.specs.Text.{countLine}
+use Rattle.printing.specs.Steps.{mostPlugLine}
 use Rattle.printing.proofs.Writing.{then-wrote, room-after, room-behind, wrote-as, both-fit}
 use Rattle.printing.proofs.Texts.{few-count, round-refused, round-accepted}
 use Rattle.printing.proofs.write_round_text.Statement.{statement}
 use Rattle.printing.proofs.write_round_text.Tie as tie
 
+-- the entry, as seen from where the boxes are accepted, and that place, as seen from where the counts are written
+abbrev entry : tie.After-enum-told → tie.Start
+entry c = c .before .before .before .before
+
+abbrev passed : tie.After-write-counts → tie.After-enum-told
+passed c = c .before .before
+
 -- the boxes are accepted
-is-accepted : (c : tie.After-enum-told) → boxListFault (c .before .before .before .before .args .boxes .now) ≡ none
+is-accepted : (c : tie.After-enum-told) → boxListFault (entry c .args .boxes .now) ≡ none
 is-accepted c = sym (c .before .before .check-boxes .ensures) ∙ ap faultOf (c .enum-told .given .1)
 
 -- there is room for the counts and for the plugs' lines behind them
 abbrev lines : tie.Start → ℕ
-lines s = 15 * (length (s .args .plugs .now) / 2)
+lines s = mostPlugLine * (length (s .args .plugs .now) / 2)
 
 room : (s : tie.Start) → length (countLine (length (s .args .boxes .now) / 4) (length (s .args .plugs .now) / 2)) + lines s ≤ length (s .args .out .now)
 room s =
     let g = s .good in
-    omega (arith, s .pre .1, few-count (length (s .args .boxes .now) / 4) (length (s .args .plugs .now) / 2) (omega (arith, g)) (omega (arith, g)))
+    omega (arith, s .pre .lines, few-count (length (s .args .boxes .now) / 4) (length (s .args .plugs .now) / 2) (omega (arith, g)) (omega (arith, g)))
 
 check-boxes-requires : tie.Need-check-boxes-requires
 check-boxes-requires c κs = search needs
@@ -49,37 +58,42 @@ write-counts-requires c κs = search needs
 
 sub-write-plugs : tie.Need-sub-write-plugs
 sub-write-plugs c =
-    let s = c .before .before .before .before .before .before .before .before in
-    omega (arith, room-after (lines s) (c .before .before .write-counts .ensures) (room s))
+    let w = c .before .before in
+    let s = entry (passed w) in
+    omega (arith, room-after (lines s) (w .write-counts .ensures) (room s))
 
 part-write-plugs-start : tie.Need-part-write-plugs-start
 part-write-plugs-start c =
-    let s = c .before .before .before .before .before .before .before .before in
-    omega (arith, room-after (lines s) (c .before .before .write-counts .ensures) (room s))
+    let w = c .before .before in
+    let s = entry (passed w) in
+    omega (arith, room-after (lines s) (w .write-counts .ensures) (room s))
 
 part-write-plugs-end : tie.Need-part-write-plugs-end
 part-write-plugs-end c = search needs
 
 write-plugs-requires : tie.Need-write-plugs-requires
 write-plugs-requires c κs =
-    let s = c .before .before .before .before .before .before .before .before .before in
-    let w = c .before .before .before .write-counts in
-    (is-accepted (c .before .before .before .before .before), record { numbers = s .pre .0; lines = room-behind (lines s) (w .ensures) (room s) })
+    let w = c .before .before .before in
+    let s = entry (passed w) in (
+      accepted (s .args .boxes .now) (is-accepted (passed w)),
+      record { numbers = s .pre .numbers; lines = omega (arith, room-behind (lines s) (w .write-counts .ensures) (room s)) },
+    )
 
 add-result : tie.Need-add-result
 add-result c =
-    let w = c .before .before .before .before .before .before .write-counts in
-    let v = c .before .before .write-plugs in
-    omega (arith, both-fit (w .ensures) (v .ensures) (v .kept .1 .1 .0), w .kept .1 .1 .0, c .before .before .before .before .before .before .before .before .before .before .before .before .good)
+    let w = c .before .before .before .before .before .before in
+    let x = w .write-counts in
+    let y = c .before .before .write-plugs in
+    omega (arith, both-fit (x .ensures) (y .ensures) (y .kept .1 .1 .0), x .kept .1 .1 .0, entry (passed w) .good)
 
 same-length-2 : tie.Need-same-length-2
 same-length-2 c = search needs
 
 returns-2 : tie.Need-returns-2
 returns-2 c =
-    let s = c .before .before .before .before .before .before .before .before .before .before .before .before in
-    let w = c .before .before .before .before .before .before .write-counts in
-    wrote-as (round-accepted _ _ (is-accepted (c .before .before .before .before .before .before .before .before))) (then-wrote (w .ensures) (omega (arith, room s)) (c .before .before .write-plugs .ensures))
+    let w = c .before .before .before .before .before .before in
+    wrote-as (round-accepted _ _ (is-accepted (passed w)))
+    (then-wrote (w .write-counts .ensures) (omega (arith, room (entry (passed w)))) (c .before .before .write-plugs .ensures))
 
 pub write-round-text-spec : {M : Type 1} → statement M
 write-round-text-spec =

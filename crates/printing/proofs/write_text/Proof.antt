@@ -6,6 +6,7 @@ use native.Mathlib.Omega.{arith}
 use borrow.Author.Needs.{needs}
 use lib.ListN.{length}
 use lib.Seq.{length-take-le}
+use Rattle.rounds.specs.Refusals.{mostInput}
 use Rattle.printing.specs.Steps.{roundText}
 use Rattle.printing.proofs.Writing.{wrote-as}
 use Rattle.printing.proofs.Texts.{text-long, text-refused, text-read, Taken, was-refused, was-read}
@@ -16,7 +17,7 @@ use Rattle.printing.proofs.write_text.Tie as tie
 abbrev file : tie.After-plugs2 → List ℕ
 file c = c .before .before .before .before .before .before .before .args .file .now
 
-not-long : (c : tie.After-plugs2) → length (file c) ≤ 65536
+not-long : (c : tie.After-plugs2) → length (file c) ≤ mostInput
 not-long c = omega (arith, c .before .before .before .before .before .if1 .left)
 
 -- what the reader left
@@ -75,7 +76,7 @@ write-round-text-requires : tie.Need-write-round-text-requires
 write-round-text-requires c κs =
     let d = c .before .before .before .before .before .before in
     let l = length-take-le (2 * d .reading .given .0 .0 .plugs) (d .before .before .before .before .read-round .last .1 .1 .0) (plugs-fit d) in
-    (omega (arith, l, taken d .few-plugs), omega (arith, l, taken d .few-plugs))
+    record { numbers = omega (arith, l, taken d .few-plugs); lines = omega (arith, l, taken d .few-plugs) }
 
 enum-known-reading-2 : tie.Need-enum-known-reading-2
 enum-known-reading-2 c = search needs
@@ -93,7 +94,7 @@ returns-3 : tie.Need-returns-3
 returns-3 c =
     let d = c .before .before .before in
     let h = not-long (d .before .before) in
-    wrote-as (text-refused _ h _ (was-refused _ h refl refl (d .before .before .before .before .read-round .ensures) (d .reading2 .given .1))) (c .write-refusal2 .ensures)
+    wrote-as (text-refused _ h (d .reading2 .given .0 .0) _ (was-refused _ h refl refl (d .before .before .before .before .read-round .ensures) (d .reading2 .given .1))) (c .write-refusal2 .ensures)
 
 pub write-text-spec : {M : Type 1} → statement M
 write-text-spec =

@@ -1,5 +1,5 @@
 -- `records::flattened` meets its contract: a walk of its MIR, by hand, with a loop. In each turn the slice is looked into for one record, which is copied into a local,
--- and the array, a local, is lent to `put_box` for a lifetime of that call, and comes back. All that the proof knows of `copied_count` and `put_box` is that each meets
+-- and the array, a local, is lent to `copy_box` for a lifetime of that call, and comes back. All that the proof knows of `copied_count` and `copy_box` is that each meets
 -- its contract. Assumes nothing.
 use mathlib.Core.Path.{_≡_, refl, sym, ap}
 use Prim.Native.Nat.{ℕ, _<_, _≤_, _+_, _-_, _*_, _^_}
@@ -28,8 +28,8 @@ use contract.Monad.{Fun, fact}
 use contract.Running.{givenOf, tables, tablesOf}
 use types.Kit.{Given, Item, Sq, runs, anyQ, atRet, ‵, raw, _⊛_, some, later, ⋆, _$_, _∵_, !, qed, by, move, keep, drop, use0, use1, use2, use3, split, join, pick, rewrite, fsplit, fjoin, suffices, frame, await, done}
 use types.Part.{whole, sub, look-in, rep}
-use types.Run.{look, look-raw, store, init, forget, stop, hop, fld, from, load, lit, of-opd, bin, addr, assigns, assigns-last, and-then, no-more, land}
-use types.Run.{first, blocks, stays, leaves-loop, returns, enter, alloc1, alloc0, params1, pass1, pass0, free1, free0, exec, well-typed, Below, again, loops}
+use types.Run.{look, look-raw, store, init, forget, stop, hop, fld, from, load, lit, of-opd, bin, addr, assigns, assigns-last, and-then, no-more}
+use types.Run.{land, first, blocks, stays, leaves-loop, returns, enter, alloc1, alloc0, params1, pass1, pass0, free1, free0, exec, well-typed, Below, again, loops}
 use types.SemTy.{Body}
 use types.Share.{arr-parts}
 use types.Tokens.{lft-new, lft-end}
@@ -59,18 +59,18 @@ use denote.Triple.Walked.{says, Stays, stay-none-slice, walkOf, goes-none-slice,
 use denote.Exit.{yes}
 use borrow.Table.OneValue.{part-in, part-out}
 use Rattle.records.specs.Records.{edgesOf, CopyCount, Holds}
-use Rattle.records.specs.declared.BoxEdges.{BoxEdges}
+use Rattle.rounds.specs.declared.Box.{Box}
 use Rattle.records.proofs.Copying.{noBox, boxPut, lt-or-le, copied-within, Copied, starts, goes-on, ends}
-use Rattle.records.proofs.BoxEdges as T
-use Rattle.records.proofs.BoxEdges.Laws as T′
+use Rattle.rounds.proofs.Box as T
+use Rattle.rounds.proofs.Box.Laws as T′
 use Rattle.records.proofs.copied_count as count
 use Rattle.records.proofs.copied_count.Symbol as count-def
 use Rattle.records.proofs.copied_count.Symbol.{name as #records·copied-count}
 use Rattle.records.proofs.copied_count.Met as count-thm
-use Rattle.records.proofs.put_box as put
-use Rattle.records.proofs.put_box.Symbol as put-def
-use Rattle.records.proofs.put_box.Symbol.{name as #records·put-box}
-use Rattle.records.proofs.put_box.Met as put-thm
+use Rattle.records.proofs.copy_box as put
+use Rattle.records.proofs.copy_box.Symbol as put-def
+use Rattle.records.proofs.copy_box.Symbol.{name as #records·copy-box}
+use Rattle.records.proofs.copy_box.Met as put-thm
 use Rattle.records.proofs.flattened.Key.{name as #records·flattened}
 use Rattle.records.proofs.flattened as flattened
 use Rattle.records.proofs.flattened.Statement as stated
@@ -84,7 +84,7 @@ stayed = (stay-none-slice (0 ∷ []) tt (plain (λ _. T.the-row)) yes, tt)
 abbrev R : RattleType
 R = T.the-row
 
-abbrev vals : BoxEdges → List Val
+abbrev vals : Box → List Val
 vals = LL.vals T.the-type T′.the-laws
 
 abbrev Arr : RattleType
@@ -107,15 +107,15 @@ abbrev mref : Ty
 mref = tyRef erased mut arr
 
 -- ---- the loop's state: the next index, the array, and what is so of them. What is left of the list falls
-record State (ys : List BoxEdges) : Type 0 where
+record State (ys : List Box) : Type 0 where
   pub i : ℕ
   pub xs : List ℤ
   pub so-far : Copied ys i xs
 
-abbrev Less : (ys : List BoxEdges) → State ys → State ys → Type 0
+abbrev Less : (ys : List Box) → State ys → State ys → Type 0
 Less ys s t = length ys - s .i < length ys - t .i
 
-falls : (ys : List BoxEdges) → WellFounded (Less ys)
+falls : (ys : List Box) → WellFounded (Less ys)
 falls ys = InvImage·wf (λ (s : State ys). length ys - s .i) (Nat·lt-wfRel .wf)
 
 module _ {M : Type 1} (𝓤 : URA M) (H : Heap 𝓤) (A : Atoms 𝓤) (mem : Memory → SProp 𝓤) (run : Routine → Fun 𝓤) where
@@ -123,15 +123,15 @@ module _ {M : Type 1} (𝓤 : URA M) (H : Heap 𝓤) (A : Atoms 𝓤) (mem : Mem
   abbrev Count : Contract 𝓤
   Count = tripleOf 𝓤 H A count.signature (count.spec 𝓤 H A mem run)
 
-  abbrev PutBox : Contract 𝓤
-  PutBox = tripleOf 𝓤 H A put.signature (put.spec 𝓤 H A mem run)
+  abbrev CopyBox : Contract 𝓤
+  CopyBox = tripleOf 𝓤 H A put.signature (put.spec 𝓤 H A mem run)
 
 module _ {M : Type 1} (𝓤 : URA M) (H : Heap 𝓤) (A : Atoms 𝓤) (W : Given 𝓤 H A) (mem : Memory → SProp 𝓤) (run : Routine → Fun 𝓤) (κ : Lft) (q : Share) (b o : ℕ) (γ : GName)
-    (ys : List BoxEdges) (gn : Room T.the-row (length ys)) where
+    (ys : List Box) (gn : Room T.the-row (length ys)) where
   abbrev n : ℕ
   n = length ys
 
-  abbrev sl : RefT (List BoxEdges)
+  abbrev sl : RefT (List Box)
   sl = record { ptr = (b, o); name = γ; now = ys }
 
   abbrev at : Vals flattened.signature (κ, tt)
@@ -165,7 +165,7 @@ module _ {M : Type 1} (𝓤 : URA M) (H : Heap 𝓤) (A : Atoms 𝓤) (W : Given
   count-said r = exE 𝓤 _ (λ ws. snd∗ 𝓤 (sem 𝓤 H A (lasts count.ended tt (n, tt) ws)) (fact 𝓤 (CopyCount n r)))
 
   -- the loop, up to the number k
-  module _ (𝓣 : Tables 𝓤 H) (known : Triple 𝓤 (𝓣 .C #records·put-box) (PutBox 𝓤 H A mem run)) (k : ℕ) (counts : CopyCount n k) (l₀ l₁ l₂ l₃ l₄ l₅ l₆ l₇ l₈ l₉ l₁₀ l₁₁ : ℕ) where
+  module _ (𝓣 : Tables 𝓤 H) (known : Triple 𝓤 (𝓣 .C #records·copy-box) (CopyBox 𝓤 H A mem run)) (k : ℕ) (counts : CopyCount n k) (l₀ l₁ l₂ l₃ l₄ l₅ l₆ l₇ l₈ l₉ l₁₀ l₁₁ : ℕ) where
     abbrev C : Calls 𝓤 H
     C = 𝓣 .C
 
@@ -194,24 +194,24 @@ module _ {M : Type 1} (𝓤 : URA M) (H : Heap 𝓤) (A : Atoms 𝓤) (W : Given
       abbrev xs : List ℤ
       xs = s .xs
 
-      abbrev elem : BoxEdges
+      abbrev elem : Box
       elem = getD ys i noBox
 
       abbrev Turn : Type 1
       Turn = Sq W (I s) (runs C Λ En body.turn-1 (anyQ (afterTurn 𝓤 H (Below 𝓤 H A (Less ys) I s) Left)))
 
-      -- what `put_box` is passed: the array, lent for α under δ, i, and the record
+      -- what `copy_box` is passed: the array, lent for α under δ, i, and the record
       abbrev lent : GName → RefT (List ℤ)
       lent δ = record { ptr = (l₂, 0); name = δ; now = xs }
 
       abbrev args : (α : ℕ) → GName → Args put.signature (α ∷ [], tt)
       args α δ = (lent δ, (i, (elem, tt)))
 
-      abbrev to : ℕ → GName → PutBox 𝓤 H A mem run .Ghost
+      abbrev to : ℕ → GName → CopyBox 𝓤 H A mem run .Ghost
       to α δ = (((α ∷ [], tt), (fullShare, tt), tt, args α δ, (vptr l₂ 0 ∷ [], (vint w64 i ∷ [], (vals elem, tt)))), tt)
 
       goes : i < 1024 → i < 2 ^ 64 → Is R elem (vals elem) → (α : ℕ) (δ : GName)
-          → ent 𝓤 (sep 𝓤 (A .lft (α ∷ []) fullShare) (sem 𝓤 H A (MutRef (named 0) (α ∷ []) Arr .own (lent δ) (vptr l₂ 0 ∷ [])))) (PutBox 𝓤 H A mem run .pre (to α δ))
+          → ent 𝓤 (sep 𝓤 (A .lft (α ∷ []) fullShare) (sem 𝓤 H A (MutRef (named 0) (α ∷ []) Arr .own (lent δ) (vptr l₂ 0 ∷ [])))) (CopyBox 𝓤 H A mem run .pre (to α δ))
       goes few fits g α δ =
           qed W (‵ (flft (α ∷ []) fullShare) ∷ ‵ (MutRef (named 0) (α ∷ []) Arr .own (lent δ) (vptr l₂ 0 ∷ [])) ∷ []) ∵ says ! few $
           nothing ! $ owned ! R (Is R) (LL.makes T.the-type T′.the-plain 𝓤 H A) elem (vals elem) g $ fjoin ! $
@@ -242,9 +242,9 @@ module _ {M : Type 1} (𝓤 : URA M) (H : Heap 𝓤) (A : Atoms 𝓤) (W : Given
           lft-new ! tt (λ α. move ! (3 ∷ []) $
           use1 W (later (some (λ (δ : GName). ‵ (MutRef (named 0) (α ∷ []) Arr .own (lent δ) (vptr l₂ 0 ∷ [])) ⊛ ‵ (flent (α ∷ []) (Body (memOf Arr) l₂ 0 δ)))))
           (lends-ref 𝓤 H A W Arr (named 0) (α ∷ []) xs l₂ 0) $ await ! tt $ pick ! (λ δ. split ! $
-          move ! (2 ∷ 0 ∷ []) $ use2 W (raw (PutBox 𝓤 H A mem run .pre (to α δ))) (goes few i-fits g α δ) $
-          -- [what `put_box` asks; the lender's part; κ's token; the fractured borrow; _4; _3; _6; _7; _8; _9; _10; _11; _5; _1; _0; res; …]
-          calls-at ! (fmOf 𝓤 H (W .laws) 𝓣) (PutBox 𝓤 H A mem run) known (to α δ)
+          move ! (2 ∷ 0 ∷ []) $ use2 W (raw (CopyBox 𝓤 H A mem run .pre (to α δ))) (goes few i-fits g α δ) $
+          -- [what `copy_box` asks; the lender's part; κ's token; the fractured borrow; _4; _3; _6; _7; _8; _9; _10; _11; _5; _1; _0; res; …]
+          calls-at ! (fmOf 𝓤 H (W .laws) 𝓣) (CopyBox 𝓤 H A mem run) known (to α δ)
           (and-then ! (load ! (from ! (stop !)) (look ! 8 refl)) (and-then ! (load ! (from ! (stop !)) (look ! 4 refl))
           (and-then ! (load ! (from ! (stop !)) (look ! 11 refl)) (no-more !)))) (λ u.
           use1 W (later (some (λ (r : Unit {0}). ((‵ (flft (α ∷ []) fullShare) ⊛ ‵ ftrue) ⊛ ‵ (unit .own r (u ∷ [])))
@@ -298,7 +298,7 @@ module _ {M : Type 1} (𝓤 : URA M) (H : Heap 𝓤) (A : Atoms 𝓤) (W : Given
       turn : Turn
       turn = ⊎-elim more leaves (lt-or-le i k)
 
-  walk : (𝓣 : Tables 𝓤 H) → Triple 𝓤 (𝓣 .C #records·copied-count) (Count 𝓤 H A mem run) → Triple 𝓤 (𝓣 .C #records·put-box) (PutBox 𝓤 H A mem run)
+  walk : (𝓣 : Tables 𝓤 H) → Triple 𝓤 (𝓣 .C #records·copied-count) (Count 𝓤 H A mem run) → Triple 𝓤 (𝓣 .C #records·copy-box) (CopyBox 𝓤 H A mem run)
       → ent 𝓤 (onEntry 𝓤 H A flattened.signature (κ, tt) (q, tt) (sl, tt) at) (WpFn 𝓤 H (𝓣 .C) (𝓣 .Λ) code.function (sliceVal (b, o) n ∷ []) Post)
   walk 𝓣 known-count known =
       qed W ((‵ (flft κ q) ⊛ ‵ ftrue) ∷ ‵ (owns (ShrSlice (named 0) κ R ∷ []) (sl, tt) at) ∷ []) ∵ enter ! (𝓣 .C) (𝓣 .Λ) code.function (sliceVal (b, o) n ∷ []) _ $
@@ -330,7 +330,7 @@ module _ {M : Type 1} (𝓤 : URA M) (H : Heap 𝓤) (A : Atoms 𝓤) (W : Given
       (record { i = 0; xs = zeros; so-far = starts ys }))))))))))))))))))
 
 module _ {M : Type 1} (𝓤 : URA M) (H : Heap 𝓤) (A : Atoms 𝓤) (W : Given 𝓤 H A) (mem : Memory → SProp 𝓤) (run : Routine → Fun 𝓤) where
-  flattened-walks : (𝓣 : Tables 𝓤 H) → Triple 𝓤 (𝓣 .C #records·copied-count) (Count 𝓤 H A mem run) → Triple 𝓤 (𝓣 .C #records·put-box) (PutBox 𝓤 H A mem run)
+  flattened-walks : (𝓣 : Tables 𝓤 H) → Triple 𝓤 (𝓣 .C #records·copied-count) (Count 𝓤 H A mem run) → Triple 𝓤 (𝓣 .C #records·copy-box) (CopyBox 𝓤 H A mem run)
       → Walks 𝓤 H A flattened.ended stayed (WpFn 𝓤 H (𝓣 .C) (𝓣 .Λ) code.function) (flattened.clauses 𝓤 H A mem run)
   flattened-walks 𝓣 known-count known = walked 𝓤 H A flattened.ended stayed (flattened.clauses 𝓤 H A mem run) (WpFn 𝓤 H (𝓣 .C) (𝓣 .Λ) code.function) (λ κs. (slice-vals, tt))
       (λ κs. (shr-slice-tells (named 0) (κs .0) R, tt))
@@ -338,7 +338,7 @@ module _ {M : Type 1} (𝓤 : URA M) (H : Heap 𝓤) (A : Atoms 𝓤) (W : Given
       (are .0 .0 .1) 𝓣 known-count known))
 
 flattened-meets : {M : Type 1} (𝓤 : URA M) (H : Heap 𝓤) (A : Atoms 𝓤) (W : Given 𝓤 H A) (mem : Memory → SProp 𝓤) (run : Routine → Fun 𝓤) (𝓣 : Tables 𝓤 H)
-    → Triple 𝓤 (𝓣 .C #records·copied-count) (Count 𝓤 H A mem run) → Triple 𝓤 (𝓣 .C #records·put-box) (PutBox 𝓤 H A mem run)
+    → Triple 𝓤 (𝓣 .C #records·copied-count) (Count 𝓤 H A mem run) → Triple 𝓤 (𝓣 .C #records·copy-box) (CopyBox 𝓤 H A mem run)
     → Meets 𝓤 H A flattened.signature (WpFn 𝓤 H (𝓣 .C) (𝓣 .Λ) code.function) (flattened.spec 𝓤 H A mem run)
 flattened-meets 𝓤 H A W mem run 𝓣 known-count known = walk-meets 𝓤 H A flattened.ended stayed W (goes-none-slice 𝓤 H A W 1 (0 ∷ []) tt (plain (λ _. R)) yes, tt)
     (flattened.clauses 𝓤 H A mem run) (WpFn 𝓤 H (𝓣 .C) (𝓣 .Λ) code.function)
@@ -351,4 +351,4 @@ flattened-spec 𝓤 H 𝓜 𝓖 𝓡 =
     (tables 𝓤 H 𝓜 𝓡 code.env .C) (tables 𝓤 H 𝓜 𝓡 code.env .Λ) #records·flattened code.function (code.unfolded 𝓤 H 𝓜 𝓡)
     (flattened-meets 𝓤 H (𝓖 .A) (givenOf 𝓤 H 𝓜 𝓖) (𝓜 .mem) (𝓡 .run) (tablesOf 𝓤 H 𝓜 (tables 𝓤 H 𝓜 𝓡 code.env))
     (cited 𝓤 H (Count 𝓤 H (𝓖 .A) (𝓜 .mem) (𝓡 .run)) 𝓜 𝓡 code.env #records·copied-count count-def.routine code.calls-records·copied-count (count-thm.met 𝓤 H 𝓜 𝓖 𝓡))
-    (cited 𝓤 H (PutBox 𝓤 H (𝓖 .A) (𝓜 .mem) (𝓡 .run)) 𝓜 𝓡 code.env #records·put-box put-def.routine code.calls-records·put-box (put-thm.met 𝓤 H 𝓜 𝓖 𝓡)))
+    (cited 𝓤 H (CopyBox 𝓤 H (𝓖 .A) (𝓜 .mem) (𝓡 .run)) 𝓜 𝓡 code.env #records·copy-box put-def.routine code.calls-records·copy-box (put-thm.met 𝓤 H 𝓜 𝓖 𝓡)))

@@ -1,4 +1,4 @@
--- `records::verdict_on` meets its contract: a walk of its MIR, by hand. It is two calls, of `flattened` and of `judge`, of which the proof knows that each meets its contract.
+-- `records::verdict_on` meets its contract: a walk of its MIR, by hand. It is two calls, of `flattened` and of `judge_front`, of which the proof knows that each meets its contract.
 -- The slice is Copy: what it owns is had twice, and one copy is kept for the exit. Assumes nothing.
 use mathlib.Core.Path.{refl}
 use Prim.Native.Nat.{ℕ, _<_, _^_}
@@ -45,17 +45,17 @@ use Rattle.verdicts.specs.declared.Verdict.{Verdict}
 use Rattle.verdicts.proofs.Verdict as S
 use Rattle.verdicts.proofs.Verdict.Laws as S′
 use Rattle.records.specs.Records.{edgesOf, Holds, JudgedOn}
-use Rattle.records.specs.declared.BoxEdges.{BoxEdges}
+use Rattle.rounds.specs.declared.Box.{Box}
 use Rattle.records.proofs.Copying.{edges-length}
-use Rattle.records.proofs.BoxEdges as T
+use Rattle.rounds.proofs.Box as T
 use Rattle.records.proofs.flattened as flat
 use Rattle.records.proofs.flattened.Symbol as flat-def
 use Rattle.records.proofs.flattened.Symbol.{name as #records·flattened}
 use Rattle.records.proofs.flattened.Met as flat-thm
-use Rattle.records.proofs.judge as work
-use Rattle.records.proofs.judge.Symbol as work-def
-use Rattle.records.proofs.judge.Symbol.{name as #records·judge}
-use Rattle.records.proofs.judge.Met as work-thm
+use Rattle.records.proofs.judge_front as work
+use Rattle.records.proofs.judge_front.Symbol as work-def
+use Rattle.records.proofs.judge_front.Symbol.{name as #records·judge-front}
+use Rattle.records.proofs.judge_front.Met as work-thm
 use Rattle.records.proofs.verdict_on.Key.{name as #records·verdict-on}
 use Rattle.records.proofs.verdict_on as entry
 use Rattle.records.proofs.verdict_on.Statement as stated
@@ -78,7 +78,7 @@ module _ {M : Type 1} (𝓤 : URA M) (H : Heap 𝓤) (A : Atoms 𝓤) (mem : Mem
   abbrev Work : Contract 𝓤
   Work = tripleOf 𝓤 H A work.signature (work.spec 𝓤 H A mem run)
 
-module _ {M : Type 1} (𝓤 : URA M) (H : Heap 𝓤) (A : Atoms 𝓤) (W : Given 𝓤 H A) (mem : Memory → SProp 𝓤) (run : Routine → Fun 𝓤) (κ : Lft) (q : Share) (x : RefT (List BoxEdges))
+module _ {M : Type 1} (𝓤 : URA M) (H : Heap 𝓤) (A : Atoms 𝓤) (W : Given 𝓤 H A) (mem : Memory → SProp 𝓤) (run : Routine → Fun 𝓤) (κ : Lft) (q : Share) (x : RefT (List Box))
     (east north : ℤ) where
   abbrev n : ℕ
   n = length (x .now)
@@ -116,7 +116,7 @@ module _ {M : Type 1} (𝓤 : URA M) (H : Heap 𝓤) (A : Atoms 𝓤) (W : Given
   flat-said : (r : List ℤ) → ent 𝓤 (ensured 𝓤 H A flat.ended (flat.clauses 𝓤 H A mem run) (κ, tt) (x, tt) tt r) (fact 𝓤 (Holds (edgesOf (now x)) r))
   flat-said r = exE 𝓤 _ (λ ws. snd∗ 𝓤 (sem 𝓤 H A (lasts flat.ended (κ, tt) (x, tt) ws)) (fact 𝓤 (Holds (edgesOf (now x)) r)))
 
-  -- the call of `judge`, at the array r with the machine value u
+  -- the call of `judge_front`, at the array r with the machine value u
   abbrev args : List ℤ → Args work.signature tt
   args r = (r, (n, (east, (north, tt))))
 
@@ -142,7 +142,7 @@ module _ {M : Type 1} (𝓤 : URA M) (H : Heap 𝓤) (A : Atoms 𝓤) (W : Given
       move ! (2 ∷ []) $ frame ! $ move ! (1 ∷ []) $ drop ! $ move ! (1 ∷ 2 ∷ []) $ fjoin ! $ frame ! $ done !
 
   module _ (C : Calls 𝓤 H) (Λ : Loops 𝓤 H) (fm : FmC 𝓤 H (W .laws) C) (known-flat : Triple 𝓤 (C #records·flattened) (Flat 𝓤 H A mem run))
-      (known-work : Triple 𝓤 (C #records·judge) (Work 𝓤 H A mem run)) where
+      (known-work : Triple 𝓤 (C #records·judge-front) (Work 𝓤 H A mem run)) where
     walk : Is (ShrSlice (named 0) κ R) x (v ∷ []) → Is i32 east (e ∷ []) → Is i32 north (o ∷ [])
         → ent 𝓤 (onEntry 𝓤 H A entry.signature (κ, tt) (q, tt) (x, (east, (north, tt))) at) (WpFn 𝓤 H C Λ code.function (v ∷ e ∷ o ∷ []) Post)
     walk gx ge go =
@@ -180,7 +180,7 @@ module _ {M : Type 1} (𝓤 : URA M) (H : Heap 𝓤) (A : Atoms 𝓤) (W : Given
         by ! (exits t u′ (judged .on (edgesOf (now x)) (edges-length (now x)) held))))))))))))))))
 
 module _ {M : Type 1} (𝓤 : URA M) (H : Heap 𝓤) (A : Atoms 𝓤) (W : Given 𝓤 H A) (mem : Memory → SProp 𝓤) (run : Routine → Fun 𝓤) where
-  entry-walks : (C : Calls 𝓤 H) (Λ : Loops 𝓤 H) → FmC 𝓤 H (W .laws) C → Triple 𝓤 (C #records·flattened) (Flat 𝓤 H A mem run) → Triple 𝓤 (C #records·judge) (Work 𝓤 H A mem run)
+  entry-walks : (C : Calls 𝓤 H) (Λ : Loops 𝓤 H) → FmC 𝓤 H (W .laws) C → Triple 𝓤 (C #records·flattened) (Flat 𝓤 H A mem run) → Triple 𝓤 (C #records·judge-front) (Work 𝓤 H A mem run)
       → Walks 𝓤 H A entry.ended stayed (WpFn 𝓤 H C Λ code.function) (entry.clauses 𝓤 H A mem run)
   entry-walks C Λ fm known-flat known-work = walked 𝓤 H A entry.ended stayed (entry.clauses 𝓤 H A mem run) (WpFn 𝓤 H C Λ code.function)
       (λ κs. (slice-vals, (sint-vals w32, (sint-vals w32, tt)))) (λ κs. (shr-slice-tells (named 0) (κs .0) R, (sint-tells w32, (sint-tells w32, tt))))
@@ -188,7 +188,7 @@ module _ {M : Type 1} (𝓤 : URA M) (H : Heap 𝓤) (A : Atoms 𝓤) (W : Given
       (are .1 .1 .0)))
 
 entry-meets : {M : Type 1} (𝓤 : URA M) (H : Heap 𝓤) (A : Atoms 𝓤) (W : Given 𝓤 H A) (mem : Memory → SProp 𝓤) (run : Routine → Fun 𝓤) (𝓣 : Tables 𝓤 H)
-    → Triple 𝓤 (𝓣 .C #records·flattened) (Flat 𝓤 H A mem run) → Triple 𝓤 (𝓣 .C #records·judge) (Work 𝓤 H A mem run)
+    → Triple 𝓤 (𝓣 .C #records·flattened) (Flat 𝓤 H A mem run) → Triple 𝓤 (𝓣 .C #records·judge-front) (Work 𝓤 H A mem run)
     → Meets 𝓤 H A entry.signature (WpFn 𝓤 H (𝓣 .C) (𝓣 .Λ) code.function) (entry.spec 𝓤 H A mem run)
 entry-meets 𝓤 H A W mem run 𝓣 known-flat known-work = walk-meets 𝓤 H A entry.ended stayed W
     (goes-none-slice 𝓤 H A W 1 (0 ∷ []) tt (plain (λ _. R)) yes, (goes-none 𝓤 H A W 1 (λ _. i32) yes (λ κs x f. refl), (goes-none 𝓤 H A W 1 (λ _. i32) yes (λ κs x f. refl), tt)))
@@ -202,4 +202,4 @@ verdict-on-spec 𝓤 H 𝓜 𝓖 𝓡 =
     (tables 𝓤 H 𝓜 𝓡 code.env .C) (tables 𝓤 H 𝓜 𝓡 code.env .Λ) #records·verdict-on code.function (code.unfolded 𝓤 H 𝓜 𝓡)
     (entry-meets 𝓤 H (𝓖 .A) (givenOf 𝓤 H 𝓜 𝓖) (𝓜 .mem) (𝓡 .run) (tablesOf 𝓤 H 𝓜 (tables 𝓤 H 𝓜 𝓡 code.env))
     (cited 𝓤 H (Flat 𝓤 H (𝓖 .A) (𝓜 .mem) (𝓡 .run)) 𝓜 𝓡 code.env #records·flattened flat-def.routine code.calls-records·flattened (flat-thm.met 𝓤 H 𝓜 𝓖 𝓡))
-    (cited 𝓤 H (Work 𝓤 H (𝓖 .A) (𝓜 .mem) (𝓡 .run)) 𝓜 𝓡 code.env #records·judge work-def.routine code.calls-records·judge (work-thm.met 𝓤 H 𝓜 𝓖 𝓡)))
+    (cited 𝓤 H (Work 𝓤 H (𝓖 .A) (𝓜 .mem) (𝓡 .run)) 𝓜 𝓡 code.env #records·judge-front work-def.routine code.calls-records·judge-front (work-thm.met 𝓤 H 𝓜 𝓖 𝓡)))

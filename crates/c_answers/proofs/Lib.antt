@@ -1,0 +1,4 @@
+pub mod Answering
+pub mod Areas
+pub mod Verdicts
+pub mod Files

@@ -1,5 +1,0 @@
-pub mod Faults
-pub mod Answering
-pub mod Areas
-pub mod Verdicts
-pub mod Files

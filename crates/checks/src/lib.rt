@@ -1,0 +1,205 @@
+// The checks of a box list, a plug, a plug list and a lent buffer's length: causes 1 to 7 of document 01's table; and
+// the number of each cause.
+ghost use mathlib.Core.Bool.{_||_};
+ghost use mathlib.Core.Path.{_≡_};
+ghost use Rattle.plane.specs.Points.{point};
+ghost use Rattle.rounds.specs.Refusals.{numberOf, faultOf, _orElse_, beyond, edgeBeyond, edgesReversed, boxFault};
+ghost use Rattle.rounds.specs.Refusals.{boxListFault, plugFault, plugListFault, bufferFault, verdictFault};
+use plane::SPAN;
+use rounds::Box;
+use rounds::Cause;
+use rounds::Checked;
+use rounds::MOST_BOXES;
+use rounds::Refusal;
+
+// The number of a cause.
+pub fn number_of(cause: Cause) -> u32
+    ensures { λ r. ⌜ r ≡ numberOf cause ⌝ }
+{
+    match cause {
+        Cause::ListLength => 1,
+        Cause::NoBox => 2,
+        Cause::TooManyBoxes => 3,
+        Cause::EdgeBeyond => 4,
+        Cause::EdgesReversed => 5,
+        Cause::PlugBeyond => 6,
+        Cause::BufferShort => 7,
+        Cause::UnknownMark => 8,
+        Cause::CutShort => 9,
+        Cause::BoxAfterPlug => 10,
+        Cause::ByteAfterEnd => 11,
+        Cause::InputTooLong => 12,
+    }
+}
+
+// The least coordinate.
+const LEAST: i32 = -SPAN;
+
+// Whether a coordinate is beyond ±16,000.
+fn is_beyond(x: i32) -> bool
+    ensures { λ r. ⌜ r ≡ beyond x ⌝ }
+{
+    if x < LEAST {
+        return true;
+    }
+    SPAN < x
+}
+
+// Whether an edge of a box is beyond ±16,000.
+fn has_edge_beyond(b: Box) -> bool
+    ensures { λ r. ⌜ r ≡ edgeBeyond b ⌝ }
+{
+    if is_beyond(b.west) {
+        return true;
+    }
+    if is_beyond(b.south) {
+        return true;
+    }
+    if is_beyond(b.east) {
+        return true;
+    }
+    is_beyond(b.north)
+}
+
+// Whether west is over east, or south over north.
+fn is_reversed(b: Box) -> bool
+    ensures { λ r. ⌜ r ≡ edgesReversed b ⌝ }
+{
+    if b.east < b.west {
+        return true;
+    }
+    b.north < b.south
+}
+
+// Checks box number `number`: 4 before 5.
+fn check_box(b: Box, number: usize) -> Checked
+    ensures { λ r. ⌜ faultOf r ≡ boxFault number b ⌝ }
+{
+    let beyond = has_edge_beyond(b);
+    let reversed = is_reversed(b);
+    if beyond {
+        return Checked::Refused(Refusal {
+            cause: Cause::EdgeBeyond,
+            place: number,
+        });
+    }
+    if reversed {
+        return Checked::Refused(Refusal {
+            cause: Cause::EdgesReversed,
+            place: number,
+        });
+    }
+    Checked::Accepted
+}
+
+// Checks a box list: 1, 2, 3, then box by box.
+pub fn check_boxes(boxes: &[i32]) -> Checked
+    ensures { λ r. ⌜ faultOf r ≡ boxListFault (now (boxes .entry)) ⌝ }
+{
+    let length = boxes.len();
+    if length % 4 != 0 {
+        return Checked::Refused(Refusal {
+            cause: Cause::ListLength,
+            place: length,
+        });
+    }
+    if length == 0 {
+        return Checked::Refused(Refusal {
+            cause: Cause::NoBox,
+            place: 0,
+        });
+    }
+    let count = length / 4;
+    if MOST_BOXES < count {
+        return Checked::Refused(Refusal {
+            cause: Cause::TooManyBoxes,
+            place: count,
+        });
+    }
+    let mut k: usize = 0;
+    while k < count {
+        let checked = check_box(boxes::box_at(boxes, k), k + 1);
+        if let Checked::Refused(refusal) = checked {
+            return Checked::Refused(refusal);
+        }
+        k += 1;
+    }
+    Checked::Accepted
+}
+
+// Checks plug number `number`: 6.
+pub fn check_plug(east: i32, north: i32, number: usize) -> Checked
+    ensures { λ r. ⌜ faultOf r ≡ plugFault number (point east north) ⌝ }
+{
+    if is_beyond(east) {
+        return Checked::Refused(Refusal {
+            cause: Cause::PlugBeyond,
+            place: number,
+        });
+    }
+    if is_beyond(north) {
+        return Checked::Refused(Refusal {
+            cause: Cause::PlugBeyond,
+            place: number,
+        });
+    }
+    Checked::Accepted
+}
+
+// Checks a plug list: 1, then plug by plug.
+pub fn check_plugs(plugs: &[i32]) -> Checked
+    ensures { λ r. ⌜ faultOf r ≡ plugListFault (now (plugs .entry)) ⌝ }
+{
+    let length = plugs.len();
+    if length % 2 != 0 {
+        return Checked::Refused(Refusal {
+            cause: Cause::ListLength,
+            place: length,
+        });
+    }
+    let count = length / 2;
+    let mut k: usize = 0;
+    while k < count {
+        let at = k * 2;
+        let checked = check_plug(plugs[at], plugs[at + 1], k + 1);
+        if let Checked::Refused(refusal) = checked {
+            return Checked::Refused(refusal);
+        }
+        k += 1;
+    }
+    Checked::Accepted
+}
+
+// Checks that a lent buffer of a length has what is needed: 7.
+pub fn check_buffer(needed: usize, given: usize) -> Checked
+    ensures { λ r. ⌜ faultOf r ≡ bufferFault needed given ⌝ }
+{
+    if given < needed {
+        return Checked::Refused(Refusal {
+            cause: Cause::BufferShort,
+            place: needed,
+        });
+    }
+    Checked::Accepted
+}
+
+// The first refusal of two checks that there is.
+pub fn first_refusal(first: Checked, second: Checked) -> Checked
+    ensures { λ r. ⌜ faultOf r ≡ faultOf first orElse faultOf second ⌝ }
+{
+    match first {
+        Checked::Accepted => second,
+        Checked::Refused(refusal) => Checked::Refused(refusal),
+    }
+}
+
+// Checks what a verdict is asked on: the boxes, then the plug with place 1.
+pub fn check_verdict(boxes: &[i32], east: i32, north: i32) -> Checked
+    ensures { λ r. ⌜ faultOf r ≡ verdictFault (now (boxes .entry)) (point east north) ⌝ }
+{
+    let checked = check_boxes(boxes);
+    if let Checked::Refused(refusal) = checked {
+        return Checked::Refused(refusal);
+    }
+    check_plug(east, north, 1)
+}

@@ -1,0 +1,3 @@
+-- Laws of extreme keys:
+--     Dropping   keys that are dropped before sorting
+pub mod Dropping
