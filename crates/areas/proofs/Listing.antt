@@ -22,12 +22,13 @@ use Rattle.rounds.specs.declared.Refusal.{Refusal}
 use Rattle.rounds.proofs.Accepted.{or-else-none, when-none, accepted}
 use Rattle.rounds.proofs.Rows.{boxes-length}
 use Rattle.outlines.specs.Outlines.{PolygonKeys}
+use Rattle.listings.specs.Listings.{flat, zeros, overFront, answered}
+use Rattle.listings.proofs.Writing.{flat-length, flat-append, over-behind, over-part, zeros-behind}
 use Rattle.areas.specs.declared.OuterReply.{OuterReply}
 use Rattle.areas.specs.declared.CornersReply.{CornersReply}
 use Rattle.areas.specs.declared.VertexCounts.{VertexCounts}
-use Rattle.areas.specs.Buffers.{flat, zeros, overFront, answered, PolygonWritten, TwoWritten, CornersWritten}
+use Rattle.areas.specs.Written.{PolygonWritten, TwoWritten, CornersWritten}
 use Rattle.areas.specs.Areas.{needed, OuterListed, CornersListed, OuterPromise, CornersPromise}
-use Rattle.areas.proofs.Writing.{flat-length, flat-append, over-behind, over-part, zeros-behind}
 
 -- no more vertices than boxes, where each box gives one point
 pub few : (f : Box → Point) (boxes : List ℤ) {count : ℕ} → count ≤ length (map f (boxesOf boxes)) → count ≤ length boxes / 4

@@ -10,9 +10,9 @@ use Rattle.rounds.specs.Boxes.{boxesOf, cornersOf, allCorners}
 use Rattle.rounds.specs.Refusals.{Fault, none, fault, refusalFault, areaFault}
 use Rattle.rounds.specs.declared.Cause.{Cause}
 use Rattle.rounds.specs.declared.Corner.the-variants.{SouthWest, SouthEast, NorthEast, NorthWest}
+use Rattle.listings.specs.Listings.{answered}
 use Rattle.areas.specs.declared.OuterReply.{OuterReply}
 use Rattle.areas.specs.declared.CornersReply.{CornersReply}
-use Rattle.areas.specs.Buffers.{answered}
 
 -- the fault that each case of a reply means: none where vertices are counted
 abbrev pub outerFault : OuterReply → Fault

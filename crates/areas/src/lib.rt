@@ -1,15 +1,10 @@
 // The outer polygon and the four corner polygons of a box list, written into a lent buffer: east and north per vertex.
 // specs/Areas.antt says what each public call promises.
-ghost use mathlib.Core.List.{_++_, map};
-ghost use mathlib.Core.Path.{_≡_};
-ghost use Prim.Native.Nat.{_+_, _-_, _*_, _/_, _≤_};
-ghost use lib.ListN.{length, take, drop};
-ghost use Rattle.plane.specs.Members.{All};
-ghost use Rattle.turns.specs.Keys.{Key, pointOf};
+ghost use Prim.Native.Nat.{_+_, _*_, _/_, _≤_};
+ghost use lib.ListN.{length};
 ghost use Rattle.rounds.specs.Boxes.{boxesOf, cornersOf, allCorners, BoxList};
-ghost use Rattle.rounds.specs.Refusals.{faultOf, areaFault};
 ghost use Rattle.outlines.specs.Outlines.{ScratchFor};
-ghost use Rattle.areas.specs.Buffers.{flat, zeros, overFront, PolygonWritten, TwoWritten, CornersWritten};
+ghost use Rattle.areas.specs.Written.{PolygonWritten, TwoWritten, CornersWritten};
 ghost use Rattle.areas.specs.Areas.{needed, OuterListed, CornersListed, OuterPromise, CornersPromise};
 use outlines::TwoCounts;
 use rounds::Checked;
@@ -48,43 +43,6 @@ pub enum CornersReply {
     Refused(Refusal),
 }
 
-// Checks what both calls are lent: the boxes, then a buffer of 8 × N numbers.
-fn check_area(boxes: &[i32], given: usize) -> Checked
-    ensures { λ r. ⌜ faultOf r ≡ areaFault (now (boxes .entry)) given ⌝ }
-{
-    let listed = checks::check_boxes(boxes);
-    let measured = checks::check_buffer(boxes.len() / 4 * 8, given);
-    checks::first_refusal(listed, measured)
-}
-
-// Writes east and north of each key's point over the front of answer.
-fn write_vertices(keys: &[u32], answer: &mut [i32])
-    requires { ⌜ All Key (now keys) × (length (now keys) * 2 ≤ length (now answer)) ⌝ }
-    ensures { λ _. ⌜ now (answer .exit) ≡ overFront (flat (map pointOf (now (keys .entry)))) (now (answer .entry)) ⌝ }
-{
-    let count = keys.len();
-    let mut k: usize = 0;
-    while k < count {
-        let at = k * 2;
-        answer[at] = turns::east_of(keys[k]);
-        answer[at + 1] = turns::north_of(keys[k]);
-        k += 1;
-    }
-}
-
-// Writes zeros over answer from the number at `from` on, up to the one before `to`.
-fn clear(from: usize, to: usize, answer: &mut [i32])
-    requires { ⌜ (from ≤ to) × (to ≤ length (now answer)) ⌝ }
-    ensures { λ _. ⌜ now (answer .exit) ≡
-        take from (now (answer .entry)) ++ zeros (to - from) ++ drop to (now (answer .entry)) ⌝ }
-{
-    let mut k = from;
-    while k < to {
-        answer[k] = 0;
-        k += 1;
-    }
-}
-
 // Writes the outer polygon over the front of answer, in lent scratch. What the scratch holds is lost.
 fn write_outer_in(
     boxes: &[i32],
@@ -100,7 +58,7 @@ fn write_outer_in(
         (allCorners (boxesOf (now (boxes .entry)))) 0 (now (answer .entry)) r (now (answer .exit)) ⌝ }
 {
     let count = outlines::outer_outline(boxes, vertices, keys, mirror);
-    write_vertices(&vertices[..count], answer);
+    listings::write_vertices(&vertices[..count], answer);
     count
 }
 
@@ -145,7 +103,7 @@ fn write_corner(
         (cornersOf corner (boxesOf (now (boxes .entry)))) 0 (now (answer .entry)) r (now (answer .exit)) ⌝ }
 {
     let count = outlines::corner_outline(boxes, corner, vertices, keys, mirror);
-    write_vertices(&vertices[..count], answer);
+    listings::write_vertices(&vertices[..count], answer);
     count
 }
 
@@ -269,7 +227,7 @@ fn list_outer(boxes: &[i32], answer: &mut [i32]) -> usize
 {
     let count = write_outer(boxes, answer);
     let end = count * 2;
-    clear(end, boxes.len() / 4 * 8, answer);
+    listings::clear(end, boxes.len() / 4 * 8, answer);
     count
 }
 
@@ -281,7 +239,7 @@ fn list_corners(boxes: &[i32], answer: &mut [i32]) -> VertexCounts
 {
     let counts = write_corners(boxes, answer);
     let end = (counts.southwest + counts.southeast + counts.northeast + counts.northwest) * 2;
-    clear(end, boxes.len() / 4 * 8, answer);
+    listings::clear(end, boxes.len() / 4 * 8, answer);
     counts
 }
 
@@ -290,7 +248,7 @@ fn list_corners(boxes: &[i32], answer: &mut [i32]) -> VertexCounts
 pub fn outer_polygon(boxes: &[i32], answer: &mut [i32]) -> OuterReply
     ensures { λ r. ⌜ OuterPromise (now (boxes .entry)) (now (answer .entry)) r (now (answer .exit)) ⌝ }
 {
-    let checked = check_area(boxes, answer.len());
+    let checked = checks::check_area(boxes, answer.len());
     if let Checked::Refused(refusal) = checked {
         return OuterReply::Refused(refusal);
     }
@@ -303,7 +261,7 @@ pub fn outer_polygon(boxes: &[i32], answer: &mut [i32]) -> OuterReply
 pub fn corner_polygons(boxes: &[i32], answer: &mut [i32]) -> CornersReply
     ensures { λ r. ⌜ CornersPromise (now (boxes .entry)) (now (answer .entry)) r (now (answer .exit)) ⌝ }
 {
-    let checked = check_area(boxes, answer.len());
+    let checked = checks::check_area(boxes, answer.len());
     if let Checked::Refused(refusal) = checked {
         return CornersReply::Refused(refusal);
     }

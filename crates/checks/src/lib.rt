@@ -4,7 +4,7 @@ ghost use mathlib.Core.Bool.{_||_};
 ghost use mathlib.Core.Path.{_≡_};
 ghost use Rattle.plane.specs.Points.{point};
 ghost use Rattle.rounds.specs.Refusals.{numberOf, faultOf, _orElse_, beyond, edgeBeyond, edgesReversed, boxFault};
-ghost use Rattle.rounds.specs.Refusals.{boxListFault, plugFault, plugListFault, bufferFault, verdictFault};
+ghost use Rattle.rounds.specs.Refusals.{boxListFault, plugFault, plugListFault, bufferFault, areaFault, verdictFault};
 use plane::SPAN;
 use rounds::Box;
 use rounds::Cause;
@@ -191,6 +191,15 @@ pub fn first_refusal(first: Checked, second: Checked) -> Checked
         Checked::Accepted => second,
         Checked::Refused(refusal) => Checked::Refused(refusal),
     }
+}
+
+// Checks what a polygon call is lent: the boxes, then a buffer of 8 × N numbers.
+pub fn check_area(boxes: &[i32], given: usize) -> Checked
+    ensures { λ r. ⌜ faultOf r ≡ areaFault (now (boxes .entry)) given ⌝ }
+{
+    let listed = check_boxes(boxes);
+    let measured = check_buffer(boxes.len() / 4 * 8, given);
+    first_refusal(listed, measured)
 }
 
 // Checks what a verdict is asked on: the boxes, then the plug with place 1.

@@ -1,23 +1,18 @@
 -- The corner at a place of a list of boxes. Assumes nothing.
-use mathlib.Core.Path.{_≡_, refl, sym, _∙_, ap, subst}
-use mathlib.Core.List.{List, [], _∷_, map}
-use Prim.Native.Nat.{ℕ, zero, suc, _*_, _/_, _<_}
+use mathlib.Core.Path.{_≡_, sym, _∙_, ap, subst}
+use mathlib.Core.List.{List, []}
+use Prim.Native.Nat.{ℕ, _*_, _/_, _<_}
 use native.Mathlib.Omega.{arith}
 use lib.IntN.{ℤ, pos}
-use lib.ListN.{length, getD, length-map}
+use lib.ListN.{length, length-map}
 use Rattle.plane.specs.Points.{point, InSpan}
+use Rattle.plane.proofs.Lists.{map-at}
 use Rattle.rounds.specs.Boxes.{BoxInSpan, BoxList, boxesOf, boxAt, cornerOf, cornersOf}
 use Rattle.rounds.specs.declared.Box.{Box}
 use Rattle.rounds.specs.declared.Corner.{Corner}
 use Rattle.rounds.specs.declared.Corner.the-variants.{SouthWest, SouthEast, NorthEast, NorthWest}
 use Rattle.rounds.proofs.Rows.{boxes-length, boxes-at, all-boxes-at}
 use Rattle.corners.specs.Corners.{nthCorner}
-
--- an element of a mapped list, whatever stands for those past the end
-pub map-at : {A B : Type 0} (f : A → B) (d : A) (e : B) (l : List A) (i : ℕ) → i < length l → getD (map f l) i e ≡ f (getD l i d)
-map-at f d e [] i h = absurd (omega arith)
-map-at f d e (x ∷ l) zero h = refl
-map-at f d e (x ∷ l) (suc i) h = map-at f d e l i (omega arith)
 
 -- a corner of a box in the span is in it
 pub corner-in-span : (c : Corner) (b : Box) → BoxInSpan b → InSpan (cornerOf c b)

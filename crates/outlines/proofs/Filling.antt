@@ -13,7 +13,8 @@ use Rattle.plane.proofs.Lists.{all-by-index, all-append}
 use Rattle.turns.specs.Keys.{Key, KeyOf, pointOf}
 use Rattle.rounds.specs.Boxes.{boxesOf, cornersOf}
 use Rattle.rounds.specs.declared.Corner.{Corner}
-use Rattle.corners.proofs.Places.{map-at, corners-length}
+use Rattle.plane.proofs.Lists.{map-at}
+use Rattle.corners.proofs.Places.{corners-length}
 use Rattle.outlines.specs.KeyLists.{KeysOf}
 
 -- the first k keys are those of the points' first k

@@ -53,6 +53,12 @@ pub in-map : {A B : Type 0} {x : A} {l : List A} (f : A → B) → x ∈ l → f
 in-map f (here e) = here (ap f e)
 in-map f (there m) = there (in-map f m)
 
+-- an element of a mapped list, whatever stands for those past the end
+pub map-at : {A B : Type 0} (f : A → B) (d : A) (e : B) (l : List A) (i : ℕ) → i < length l → getD (map f l) i e ≡ f (getD l i d)
+map-at f d e [] i h = absurd (omega arith)
+map-at f d e (x ∷ l) zero h = refl
+map-at f d e (x ∷ l) (suc i) h = map-at f d e l i (omega arith)
+
 -- in which of two lists
 pub in-append : {A : Type 0} {x : A} (l m : List A) → x ∈ (l ++ m) → (x ∈ l) ⊎ (x ∈ m)
 in-append [] m h = inr h

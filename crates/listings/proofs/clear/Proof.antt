@@ -1,4 +1,4 @@
--- `areas::clear` meets its contract. The invariant: the numbers before k are those that were, up to `from`, and then zeros. Assumes nothing.
+-- `listings::clear` meets its contract. The invariant: the numbers before k are those that were, up to `from`, and then zeros. Assumes nothing.
 use mathlib.Core.Path.{_≡_, refl, sym, _∙_, ap}
 use mathlib.Core.List.{List, _++_}
 use Prim.Native.Nat.{ℕ, _+_, _-_, _≤_, _<_}
@@ -6,10 +6,10 @@ use native.Mathlib.Omega.{arith}
 use lib.IntN.{ℤ, pos}
 use lib.ListN.{length, getD, take, drop, length-set, length-append, length-replicate, getD-replicate, take-append-drop}
 use lib.Seq.{length-take-le, take-at, getD-append-add}
-use Rattle.areas.specs.Buffers.{zeros}
-use Rattle.areas.proofs.Writing.{partly, partly-all, one-more}
-use Rattle.areas.proofs.clear.Statement.{statement}
-use Rattle.areas.proofs.clear.Tie as tie
+use Rattle.listings.specs.Listings.{zeros}
+use Rattle.listings.proofs.Writing.{partly, partly-all, one-more}
+use Rattle.listings.proofs.clear.Statement.{statement}
+use Rattle.listings.proofs.clear.Tie as tie
 
 -- the front as it was, and zeros behind it
 abbrev cleared : ℕ → ℕ → List ℤ → List ℤ

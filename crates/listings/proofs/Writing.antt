@@ -8,7 +8,7 @@ use lib.ListN.{length, getD, take, drop, set, length-append}
 use lib.Seq.{length-take-le, take-all, take-at, drop-drop, drop-append-add}
 use Rattle.plane.specs.Points.{Point}
 use Rattle.integers.proofs.Parts.{over-more, then-write}
-use Rattle.areas.specs.Buffers.{flat, zeros, overFront, answered}
+use Rattle.listings.specs.Listings.{flat, zeros, overFront, answered}
 
 -- ---- a loop that writes s overFront d, number by number
 

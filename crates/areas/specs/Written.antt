@@ -1,35 +1,17 @@
--- Vertices in a lent buffer of numbers. Definitions only.
+-- What the steps of the two calls write into a lent buffer; callers do not see these. Definitions only.
 use mathlib.Core.Path.{_≡_}
-use mathlib.Core.List.{List, [], _∷_, _++_}
-use Prim.Native.Nat.{ℕ, _-_, _*_, _≤_}
-use lib.IntN.{ℤ, pos}
-use lib.ListN.{length, take, drop, replicate}
+use mathlib.Core.List.{List, _++_}
+use Prim.Native.Nat.{ℕ, _≤_}
+use lib.IntN.{ℤ}
+use lib.ListN.{length, take, drop}
 use Rattle.plane.specs.Points.{Point}
 use Rattle.plane.specs.Polygons.{Polygon}
 use Rattle.rounds.specs.Boxes.{cornersOf}
-use Rattle.rounds.specs.Refusals.{none}
-use Rattle.rounds.specs.Replies.{bufferUnder}
 use Rattle.rounds.specs.declared.Box.{Box}
 use Rattle.rounds.specs.declared.Corner.the-variants.{SouthWest, SouthEast, NorthEast, NorthWest}
 use Rattle.outlines.specs.declared.TwoCounts.{TwoCounts}
+use Rattle.listings.specs.Listings.{flat, overFront}
 use Rattle.areas.specs.declared.VertexCounts.{VertexCounts}
-
--- document 01's "east and north per vertex"
-unfoldable pub flat : List Point → List ℤ
-flat [] = []
-flat (v ∷ vs) = v .east ∷ v .north ∷ flat vs
-
--- so many zeros
-abbrev pub zeros : ℕ → List ℤ
-zeros n = replicate n (pos 0)
-
--- numbers written over the front of a buffer; those behind them are unchanged
-abbrev pub overFront : List ℤ → List ℤ → List ℤ
-overFront numbers before = bufferUnder none numbers before
-
--- the answer in a buffer: the vertices; after the last of them zeros, up to the numbers needed; those beyond are unchanged
-abbrev pub answered : ℕ → List Point → List ℤ → List ℤ
-answered needed vertices before = flat vertices ++ zeros (needed - 2 * length vertices) ++ drop needed before
 
 -- a polygon of the points qs, its start left open, and how many vertices it has
 pub record PolygonCounted (qs vertices : List Point) (count : ℕ) : Type 0 where

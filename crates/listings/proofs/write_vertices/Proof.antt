@@ -1,4 +1,4 @@
--- `areas::write_vertices` meets its contract. The invariant: the numbers of the first k vertices are written over the front. Assumes nothing.
+-- `listings::write_vertices` meets its contract. The invariant: the numbers of the first k vertices are written over the front. Assumes nothing.
 use mathlib.Core.Path.{_≡_, refl, sym, _∙_, ap}
 use mathlib.Core.List.{List, map}
 use Prim.Native.Nat.{ℕ, _-_, _+_, _*_, _≤_, _<_}
@@ -11,11 +11,11 @@ use mir.ValLaws.{toZ-ofZ}
 use Rattle.integers.proofs.Tests.{ok}
 use Rattle.plane.proofs.Lists.{index-of-all}
 use Rattle.turns.specs.Keys.{pointOf}
-use Rattle.corners.proofs.Places.{map-at}
-use Rattle.areas.specs.Buffers.{flat}
-use Rattle.areas.proofs.Writing.{partly, partly-all, two-more, flat-length, flat-east, flat-north}
-use Rattle.areas.proofs.write_vertices.Statement.{statement}
-use Rattle.areas.proofs.write_vertices.Tie as tie
+use Rattle.plane.proofs.Lists.{map-at}
+use Rattle.listings.specs.Listings.{flat}
+use Rattle.listings.proofs.Writing.{partly, partly-all, two-more, flat-length, flat-east, flat-north}
+use Rattle.listings.proofs.write_vertices.Statement.{statement}
+use Rattle.listings.proofs.write_vertices.Tie as tie
 
 -- what is stored of a key's point is what stands there in the vertices' numbers
 module _ (ks : List ℕ) (i : ℕ) (r : ℤ) (l : i < length ks) (f : SFits w32 r) where

@@ -1,12 +1,12 @@
--- `areas::check_area` meets its contract: the two checks in their order. Assumes nothing.
+-- `checks::check_area` meets its contract: the two checks in their order. Assumes nothing.
 use mathlib.Core.Path.{_≡_, _∙_, ap, ap₂}
 use Prim.Native.Nat.{_*_, _/_}
 use native.Mathlib.Omega.{arith}
 use borrow.Author.Needs.{needs}
 use lib.ListN.{length}
 use Rattle.rounds.specs.Refusals.{_orElse_, bufferFault, areaFault}
-use Rattle.areas.proofs.check_area.Statement.{statement}
-use Rattle.areas.proofs.check_area.Tie as tie
+use Rattle.checks.proofs.check_area.Statement.{statement}
+use Rattle.checks.proofs.check_area.Tie as tie
 
 check-boxes-requires : tie.Need-check-boxes-requires
 check-boxes-requires c κs = search needs
