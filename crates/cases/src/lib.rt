@@ -48,7 +48,7 @@ pub fn read_front(list: &[i32]) -> usize
 }
 
 // Reads as many numbers as the list has.
-fn fill(list: &mut [i32]) {
+fn read_numbers(list: &mut [i32]) {
     let mut k: usize = 0;
     while k < list.len() {
         list[k] = read_number();
@@ -59,7 +59,7 @@ fn fill(list: &mut [i32]) {
 // Reads a count and so many numbers over the front of a list.
 pub fn read_over(list: &mut [i32]) {
     let count = read_front(list);
-    fill(&mut list[..count]);
+    read_numbers(&mut list[..count]);
 }
 
 // The next count, as the length of a part at the front of some bytes: no more than there are.

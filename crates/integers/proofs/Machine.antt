@@ -52,15 +52,6 @@ mag-lt (negsuc n) {B} {H} l h = omega (arith, le-is (is-neg (is-self (pos B))) (
 pub fits : (w : Width) {B : ℕ} {z : ℤ} → T (ltb B (2 ^ hbits w)) → Upto B z → SFits w z
 fits w {B} {z} t h = record { sfits = mag-lt z (ltb→lt B (2 ^ hbits w) t) h }
 
-pub upto-fits : (w : Width) {z : ℤ} → SFits w z → Upto (2 ^ hbits w) z
-upto-fits w {z} f = go z (2 ^ hbits w) (f .sfits)
-  where
-    go : (z : ℤ) (H : ℕ) → mag z < H → Upto H z
-    go (pos n) H l =
-        record { low = is-le (is-neg (is-self (pos H))) (is-self (pos n)) (omega arith); high = is-le (is-self (pos n)) (is-self (pos H)) (omega arith) }
-    go (negsuc n) H l =
-        record { low = is-le (is-neg (is-self (pos H))) (is-self (negsuc n)) (omega arith); high = is-le (is-self (negsuc n)) (is-self (pos H)) (omega arith) }
-
 -- ---- what the machine reads back
 
 -- a number that the width holds is read back as it is, and so is as small; the first `tt` is the check of the bound

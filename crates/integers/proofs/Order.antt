@@ -91,9 +91,6 @@ pos→< {a} {b} = lin 0 2 (λ a b. # 0 ≺ b ⊖ a ⟹ a ≺ b) (omega arith) a 
 
 -- ---- sums
 
-pub +-mono : {a b c d : ℤ} → a ≤ℤ b → c ≤ℤ d → (a +ℤ c) ≤ℤ (b +ℤ d)
-+-mono {a} {b} {c} {d} = lin 0 4 (λ a b c d. a ≼ b ⟹ c ≼ d ⟹ a ⊕ c ≼ b ⊕ d) (omega arith) a b c d
-
 pub add-nn : {a b : ℤ} → pos 0 ≤ℤ a → pos 0 ≤ℤ b → pos 0 ≤ℤ (a +ℤ b)
 add-nn {a} {b} = lin 0 2 (λ a b. # 0 ≼ a ⟹ # 0 ≼ b ⟹ # 0 ≼ a ⊕ b) (omega arith) a b
 
@@ -133,9 +130,6 @@ np-of {a} = lin 0 1 (λ a. a ≼ # 0 ⟹ # 0 ≼ ⊝ a) (omega arith) a
 
 pub mul-nn-np : {a b : ℤ} → pos 0 ≤ℤ a → b ≤ℤ pos 0 → (a *ℤ b) ≤ℤ pos 0
 mul-nn-np {a} {b} h k = lin 0 2 (λ a b. # 0 ≼ a ⊗ ⊝ b ⟹ a ⊗ b ≼ # 0) (omega arith) a b (mul-nn h (np-of k))
-
-pub mul-np-nn : {a b : ℤ} → a ≤ℤ pos 0 → pos 0 ≤ℤ b → (a *ℤ b) ≤ℤ pos 0
-mul-np-nn {a} {b} h k = lin 0 2 (λ a b. # 0 ≼ ⊝ a ⊗ b ⟹ a ⊗ b ≼ # 0) (omega arith) a b (mul-nn (np-of h) k)
 
 pub mul-pos-neg : {a b : ℤ} → pos 0 <ℤ a → b <ℤ pos 0 → (a *ℤ b) <ℤ pos 0
 mul-pos-neg {a} {b} h k = lin 0 2 (λ a b. # 0 ≺ a ⊗ ⊝ b ⟹ a ⊗ b ≺ # 0) (omega arith) a b (mul-pos h (neg-of k))

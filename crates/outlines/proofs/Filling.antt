@@ -9,11 +9,10 @@ use lib.ListN.{length, getD, take, drop, set, length-map, length-append, length-
 use lib.Seq.{length-take-le, take-append-add, take-append-le, getD-take, ext-getD, getD-set-same, getD-set-other}
 use Rattle.plane.specs.Points.{Point, point}
 use Rattle.plane.specs.Members.{All}
-use Rattle.plane.proofs.Lists.{all-by-index, all-append}
+use Rattle.plane.proofs.Lists.{all-by-index, all-append, map-at}
 use Rattle.turns.specs.Keys.{Key, KeyOf, pointOf}
 use Rattle.rounds.specs.Boxes.{boxesOf, cornersOf}
 use Rattle.rounds.specs.declared.Corner.{Corner}
-use Rattle.plane.proofs.Lists.{map-at}
 use Rattle.corners.proofs.Places.{corners-length}
 use Rattle.outlines.specs.KeyLists.{KeysOf}
 

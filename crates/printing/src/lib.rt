@@ -170,7 +170,7 @@ fn write_lines(vertices: &[u32], counts: RoundCounts, plugs: &[i32], out: &mut [
 }
 
 // Writes the line of each plug. The polygons of the boxes are made once.
-fn write_plugs(boxes: &[i32], plugs: &[i32], out: &mut [u8]) -> usize
+fn write_plug_lines(boxes: &[i32], plugs: &[i32], out: &mut [u8]) -> usize
     requires { ⌜ BoxList (now boxes) × LineRoom 0 (now plugs) (now out) ⌝ }
     ensures { λ r. ⌜ Wrote
         (plugLines 1 (boxesOf (now (boxes .entry))) (plugsOf (now (plugs .entry))))
@@ -194,7 +194,7 @@ fn write_round_text(boxes: &[i32], plugs: &[i32], out: &mut [u8]) -> usize
         return write_refusal(refusal, out);
     }
     let n = write_counts(boxes.len() / 4, plugs.len() / 2, out);
-    n + write_plugs(boxes, plugs, &mut out[n..])
+    n + write_plug_lines(boxes, plugs, &mut out[n..])
 }
 
 // Writes what the printing program prints for an input, and returns its length.

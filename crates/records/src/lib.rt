@@ -6,6 +6,7 @@ ghost use mathlib.Core.List.{[], _∷_};
 ghost use Prim.Native.Nat.{_*_, _<_};
 ghost use lib.Seq.{sets};
 ghost use Rattle.plane.specs.Points.{point};
+ghost use Rattle.rounds.specs.Boxes.{mostBoxes};
 ghost use Rattle.verdicts.specs.Verdicts.{VerdictIs};
 ghost use Rattle.records.specs.Records.{edgesOf, CopyCount, Holds, JudgedOn};
 use rounds::Box;
@@ -27,7 +28,7 @@ fn copied_count(count: usize) -> usize
 
 // Copies the four edges of the record at place `i`, from 0.
 fn copy_box(flat: &mut [i32; MOST_NUMBERS], i: usize, b: Box)
-    requires { ⌜ i < 1024 ⌝ }
+    requires { ⌜ i < mostBoxes ⌝ }
     ensures { λ _. ⌜ now (flat .exit) ≡ sets (now (flat .entry)) (i * 4) (edgesOf (b ∷ [])) ⌝ }
 {
     let at = i * 4;

@@ -1,17 +1,16 @@
 -- The order of keys is that of their points by east, then by north, and a point has one key. Assumes nothing.
-use mathlib.Core.Path.{_≡_, refl, sym, ap, _∙_, subst}
+use mathlib.Core.Path.{_≡_, refl, sym, ap, _∙_}
 use mathlib.Core.Bool.{Bool, true, false, cond}
 use Prim.Native.Nat.{ℕ, _<_}
 use native.Mathlib.Decide.{decLt}
 use native.Mathlib.Omega.{arith}
 use borrow.Author.Tests.{lt-ltb, le-ltb, ltb-true}
 use lib.Dec.{T, ltb}
-use lib.IntN.{ℤ, pos, _-ℤ_, _*ℤ_}
+use lib.IntN.{pos, _-ℤ_}
 use lib.Signed.{ltZ, _<ℤ_}
-use Rattle.integers.proofs.Expr.{_⊖_, _⊗_, #_, _≐_, _≺_, _⟹_}
+use Rattle.integers.proofs.Expr.{_⊖_, #_, _≐_, _≺_, _⟹_}
 use Rattle.integers.proofs.Lin.{lin}
 use Rattle.plane.specs.Points.{Point, point}
-use Rattle.plane.specs.Vectors.{from}
 use Rattle.plane.proofs.Angular.{Up, ahead, above}
 use Rattle.turns.specs.Keys.{eastPart, northPart, pointOf, precedes}
 use Rattle.turns.proofs.Parts.{part-less}
@@ -87,11 +86,3 @@ up {a} {b} h = go (decLt (eastPart a) (eastPart b))
     go (no f) =
         let e : eastPart b ≡ eastPart a = omega arith in
         above (same (eastPart a) (eastPart b) e) (differ (northPart a) (northPart b) (omega arith))
-
--- the same over plane's `from`
-pub up-from : {a b : ℕ} → a < b → Up (from 1 (pointOf a) (pointOf b))
-up-from {a} {b} h =
-    subst Up (λ i. point (once (pointOf b .east) (pointOf a .east) i) (once (pointOf b .north) (pointOf a .north) i)) (up h)
-  where
-    once : (x y : ℤ) → x -ℤ y ≡ x -ℤ pos 1 *ℤ y
-    once = lin 0 2 (λ x y. x ⊖ y ≐ x ⊖ # 1 ⊗ y) (omega arith)

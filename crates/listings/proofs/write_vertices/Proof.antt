@@ -9,9 +9,8 @@ use mir.Syntax.{w32}
 use mir.Val.{SFits, toZ, ofZ}
 use mir.ValLaws.{toZ-ofZ}
 use Rattle.integers.proofs.Tests.{ok}
-use Rattle.plane.proofs.Lists.{index-of-all}
+use Rattle.plane.proofs.Lists.{index-of-all, map-at}
 use Rattle.turns.specs.Keys.{pointOf}
-use Rattle.plane.proofs.Lists.{map-at}
 use Rattle.listings.specs.Listings.{flat}
 use Rattle.listings.proofs.Writing.{partly, partly-all, two-more, flat-length, flat-east, flat-north}
 use Rattle.listings.proofs.write_vertices.Statement.{statement}

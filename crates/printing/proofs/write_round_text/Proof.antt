@@ -56,23 +56,23 @@ enum-told c = search needs
 write-counts-requires : tie.Need-write-counts-requires
 write-counts-requires c κs = search needs
 
-sub-write-plugs : tie.Need-sub-write-plugs
-sub-write-plugs c =
+sub-write-plug-lines : tie.Need-sub-write-plug-lines
+sub-write-plug-lines c =
     let w = c .before .before in
     let s = entry (passed w) in
     omega (arith, room-after (lines s) (w .write-counts .ensures) (room s))
 
-part-write-plugs-start : tie.Need-part-write-plugs-start
-part-write-plugs-start c =
+part-write-plug-lines-start : tie.Need-part-write-plug-lines-start
+part-write-plug-lines-start c =
     let w = c .before .before in
     let s = entry (passed w) in
     omega (arith, room-after (lines s) (w .write-counts .ensures) (room s))
 
-part-write-plugs-end : tie.Need-part-write-plugs-end
-part-write-plugs-end c = search needs
+part-write-plug-lines-end : tie.Need-part-write-plug-lines-end
+part-write-plug-lines-end c = search needs
 
-write-plugs-requires : tie.Need-write-plugs-requires
-write-plugs-requires c κs =
+write-plug-lines-requires : tie.Need-write-plug-lines-requires
+write-plug-lines-requires c κs =
     let w = c .before .before .before in
     let s = entry (passed w) in (
       accepted (s .args .boxes .now) (is-accepted (passed w)),
@@ -83,7 +83,7 @@ add-result : tie.Need-add-result
 add-result c =
     let w = c .before .before .before .before .before .before in
     let x = w .write-counts in
-    let y = c .before .before .write-plugs in
+    let y = c .before .before .write-plug-lines in
     omega (arith, both-fit (x .ensures) (y .ensures) (y .kept .1 .1 .0), x .kept .1 .1 .0, entry (passed w) .good)
 
 same-length-2 : tie.Need-same-length-2
@@ -93,7 +93,7 @@ returns-2 : tie.Need-returns-2
 returns-2 c =
     let w = c .before .before .before .before .before .before in
     wrote-as (round-accepted _ _ (is-accepted (passed w)))
-    (then-wrote (w .write-counts .ensures) (omega (arith, room (entry (passed w)))) (c .before .before .write-plugs .ensures))
+    (then-wrote (w .write-counts .ensures) (omega (arith, room (entry (passed w)))) (c .before .before .write-plug-lines .ensures))
 
 pub write-round-text-spec : {M : Type 1} → statement M
 write-round-text-spec =
@@ -106,10 +106,10 @@ write-round-text-spec =
     returns
     enum-told
     write-counts-requires
-    sub-write-plugs
-    part-write-plugs-start
-    part-write-plugs-end
-    write-plugs-requires
+    sub-write-plug-lines
+    part-write-plug-lines-start
+    part-write-plug-lines-end
+    write-plug-lines-requires
     add-result
     same-length-2
     returns-2)

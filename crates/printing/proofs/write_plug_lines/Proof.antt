@@ -1,9 +1,9 @@
--- `printing::write_plugs` meets its contract: the vertices that are lent on are those of the five polygons. Assumes nothing.
+-- `printing::write_plug_lines` meets its contract: the vertices that are lent on are those of the five polygons. Assumes nothing.
 use native.Mathlib.Omega.{arith}
 use borrow.Author.Needs.{needs}
 use Rattle.words.proofs.Deciding.{round-keys}
-use Rattle.printing.proofs.write_plugs.Statement.{statement}
-use Rattle.printing.proofs.write_plugs.Tie as tie
+use Rattle.printing.proofs.write_plug_lines.Statement.{statement}
+use Rattle.printing.proofs.write_plug_lines.Tie as tie
 
 slice-aggregate-round-outlines : tie.Need-slice-aggregate-round-outlines
 slice-aggregate-round-outlines c = search needs
@@ -37,8 +37,8 @@ returns c =
     let s = f .before .before .before .before .before in
     c .before .before .write-lines .ensures .says _ (s .pre .0 .ordered) (f .round-outlines .ensures)
 
-pub write-plugs-spec : {M : Type 1} → statement M
-write-plugs-spec =
+pub write-plug-lines-spec : {M : Type 1} → statement M
+write-plug-lines-spec =
     tie.close
     (tie.spec
     slice-aggregate-round-outlines

@@ -1,11 +1,11 @@
--- `cases::fill` is safe and ends: the list keeps its length. Assumes nothing.
+-- `cases::read_numbers` is safe and ends: the list keeps its length. Assumes nothing.
 use Prim.Native.Nat.{_-_, _≤_}
 use mathlib.Core.Path.{_≡_}
 use native.Mathlib.Omega.{arith}
 use borrow.Author.Needs.{needs}
 use lib.ListN.{length, length-set}
-use Rattle.cases.proofs.fill.Statement.{statement}
-use Rattle.cases.proofs.fill.Tie as tie
+use Rattle.cases.proofs.read_numbers.Statement.{statement}
+use Rattle.cases.proofs.read_numbers.Tie as tie
 
 abbrev Inv-loop : tie.InvT-loop
 Inv-loop list₀ k₀ list k = (k ≤ length list) × (length list ≡ length list₀)
@@ -16,8 +16,8 @@ abbrev μ-loop : tie.MeasureT-loop
 loop-again : tie.Need-loop-again Inv-loop μ-loop
 loop-again c = simp length-set (omega arith)
 
-pub fill-spec : {M : Type 1} → statement M
-fill-spec =
+pub read-numbers-spec : {M : Type 1} → statement M
+read-numbers-spec =
     tie.close
     (tie.spec
     Inv-loop
