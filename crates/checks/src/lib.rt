@@ -49,26 +49,14 @@ fn is_beyond(x: i32) -> bool
 fn has_edge_beyond(b: Box) -> bool
     ensures { λ r. ⌜ r ≡ edgeBeyond b ⌝ }
 {
-    if is_beyond(b.west) {
-        return true;
-    }
-    if is_beyond(b.south) {
-        return true;
-    }
-    if is_beyond(b.east) {
-        return true;
-    }
-    is_beyond(b.north)
+    is_beyond(b.west) | (is_beyond(b.south) | (is_beyond(b.east) | is_beyond(b.north)))
 }
 
 // Whether west is over east, or south over north.
 fn is_reversed(b: Box) -> bool
     ensures { λ r. ⌜ r ≡ edgesReversed b ⌝ }
 {
-    if b.east < b.west {
-        return true;
-    }
-    b.north < b.south
+    (b.east < b.west) | (b.north < b.south)
 }
 
 // Checks box number `number`: 4 before 5.

@@ -25,7 +25,7 @@ use Rattle.formats.proofs.Replies.{result-none}
 use Rattle.formats.proofs.Scan.{short}
 use Rattle.formats.proofs.RoundTrips.{boxes-flat, plugs-flat}
 use Rattle.printing.specs.Text.{refusedLine, countLine, plugLines, wholeFault, textUnder, textOf}
-use Rattle.printing.specs.Steps.{mostCountLine, mostRead, roundText}
+use Rattle.printing.specs.Steps.{mostCountLine, mostEdges, mostCoordinates, roundText}
 use Rattle.printing.proofs.Decimals.{twenty-digits}
 
 -- ---- of two lists
@@ -73,13 +73,13 @@ module _ (file : List ℕ) (h : length file ≤ mostInput) where
   unfolding textOf wholeFault inputFault roundText
   text-read e = rw (le-ltb mostInput (length file) h, e, boxes-flat (contentOf file .boxes), plugs-flat (contentOf file .plugs))
 
--- ---- what the reader leaves of such a file in two buffers of 16,384 numbers
+-- ---- what the reader leaves of such a file in two buffers that have room for what any holds
 
 -- there were so many boxes and plugs, whose numbers are the first of both buffers
 pub record Taken (file : List ℕ) (counts : Counts) (boxes plugs : List ℤ) : Type 0 where
   pub well-formed : contentOf file .fault ≡ none
-  pub few-boxes : 4 * counts .boxes ≤ mostRead
-  pub few-plugs : 2 * counts .plugs ≤ mostRead
+  pub few-boxes : 4 * counts .boxes ≤ mostEdges
+  pub few-plugs : 2 * counts .plugs ≤ mostCoordinates
   pub boxes-are : take (4 * counts .boxes) boxes ≡ flatMap edges (contentOf file .boxes)
   pub plugs-are : take (2 * counts .plugs) plugs ≡ flatMap coordinates (contentOf file .plugs)
 
@@ -88,17 +88,17 @@ or-none none = refl
 or-none (fault c p) = refl
 
 module _ (file : List ℕ) (h : length file ≤ mostInput) {boxes plugs boxes′ plugs′ : List ℤ} {reading : Reading}
-    (l : length boxes ≡ mostRead) (m : length plugs ≡ mostRead) (r : RoundRead file boxes plugs reading boxes′ plugs′) where
-  room-boxes : 4 * length (contentOf file .boxes) ≤ mostRead
+    (l : length boxes ≡ mostEdges) (m : length plugs ≡ mostCoordinates) (r : RoundRead file boxes plugs reading boxes′ plugs′) where
+  room-boxes : 4 * length (contentOf file .boxes) ≤ mostEdges
   room-boxes = omega (arith, short file)
 
-  room-plugs : 2 * length (contentOf file .plugs) ≤ mostRead
+  room-plugs : 2 * length (contentOf file .plugs) ≤ mostCoordinates
   room-plugs = omega (arith, short file)
 
   -- both are long enough, so 7 does not arise
   only-form : readerFault file boxes plugs ≡ contentOf file .fault
   unfolding readerFault readFault bufferFault
-  only-form = rw (l, m, le-ltb mostRead (4 * length (contentOf file .boxes)) room-boxes, le-ltb mostRead (2 * length (contentOf file .plugs)) room-plugs) (or-none (contentOf file .fault))
+  only-form = rw (l, m, le-ltb mostEdges (4 * length (contentOf file .boxes)) room-boxes, le-ltb mostCoordinates (2 * length (contentOf file .plugs)) room-plugs) (or-none (contentOf file .fault))
 
   reply : readingReply reading ≡ replyUnder (contentOf file .fault) (countsOf (contentOf file))
   reply = r .reply ∙ ap (λ f. replyUnder f (countsOf (contentOf file))) only-form

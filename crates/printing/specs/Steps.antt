@@ -15,7 +15,7 @@ use Rattle.outlines.specs.declared.RoundCounts.{RoundCounts}
 use Rattle.words.specs.Words.{RoundKeys}
 use Rattle.verdicts.specs.Verdicts.{wordReply}
 use Rattle.verdicts.specs.declared.WordReply.{WordReply}
-use Rattle.printing.specs.Text.{plugReply, plugLines, textUnder, Wrote}
+use Rattle.printing.specs.Text.{plugReply, plugLine, plugLines, textUnder, Wrote}
 
 -- ---- the most bytes of each part of the text, where a number has up to twenty digits, and a plug's up to four
 
@@ -44,9 +44,12 @@ pub record LineRoom (bytes : ℕ) (plugs : List ℤ) (out : List ℕ) : Type 0 w
   pub numbers : length plugs / 2 ≤ mostPlugs
   pub lines : bytes + mostPlugLine * (length plugs / 2) ≤ length out
 
--- the most numbers of boxes, and of plugs, that an input holds, each in four bytes
-abbrev pub mostRead : ℕ
-mostRead = 16384
+-- the most numbers of boxes that an input holds, four for each 18 bytes, and of plugs, two for each 10 bytes
+abbrev pub mostEdges : ℕ
+mostEdges = 14560
+
+abbrev pub mostCoordinates : ℕ
+mostCoordinates = 13106
 
 -- ---- plugs against the polygons of a round
 
@@ -57,6 +60,12 @@ pub record AnyPlug (vertices : List ℕ) (counts : RoundCounts) : Type 0 where
 -- the word of a plug, or its refusal, for all ordered boxes whose polygons they are
 pub record WordBy (vertices : List ℕ) (counts : RoundCounts) (plug : Point) (reply : WordReply) : Type 0 where
   pub says : (bs : List Box) → All Ordered bs → RoundPolygons bs vertices counts → wordReply reply ≡ plugReply bs plug
+
+-- the line of a plug was written, with that word or refusal
+pub record LineBy (vertices : List ℕ) (counts : RoundCounts) (number : ℕ) (plug : Point) (entry : List ℕ) (count : ℕ) (exit : List ℕ) : Type 0 where
+  pub reply : WordReply
+  pub word : WordBy vertices counts plug reply
+  pub wrote : Wrote (plugLine number (wordReply reply)) entry count exit
 
 -- the lines of a plug list were written, for all ordered boxes whose polygons they are
 pub record LinesBy (vertices : List ℕ) (counts : RoundCounts) (plugs : List ℤ) (entry : List ℕ) (count : ℕ) (exit : List ℕ) : Type 0 where

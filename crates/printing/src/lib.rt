@@ -14,7 +14,7 @@ ghost use Rattle.printing.specs.Decimals.{decimal};
 ghost use Rattle.printing.specs.Text.{ascii, refusedLine, countLine, afterNumber, plugLine, plugLines};
 ghost use Rattle.printing.specs.Text.{textOf, Wrote};
 ghost use Rattle.printing.specs.Steps.{mostRefusedLine, mostCountLine, mostAfterNumber, LineRoom};
-ghost use Rattle.printing.specs.Steps.{AnyPlug, WordBy, LinesBy, roundText};
+ghost use Rattle.printing.specs.Steps.{AnyPlug, WordBy, LineBy, LinesBy, roundText};
 use formats::Reading;
 use outlines::RoundCounts;
 use rounds::Cause;
@@ -28,8 +28,11 @@ use verdicts::WordReply;
 // The length of the text's buffer, in which the text of every input has room.
 pub const TEXT_LENGTH: usize = 131072;
 
-// The most numbers of boxes, and of plugs, that an input holds, each in four bytes.
-const MOST_READ: usize = 16384;
+// The most numbers of boxes that an input holds: four for each 18 bytes.
+const MOST_EDGES: usize = 14560;
+
+// The most numbers of plugs that an input holds: two for each 10 bytes.
+const MOST_COORDINATES: usize = 13106;
 
 // The most vertices of the five polygons of a round.
 const MOST_VERTICES: usize = 8192;
@@ -128,15 +131,6 @@ fn write_reply(reply: WordReply, out: &mut [u8]) -> usize
     }
 }
 
-// Writes the line of a plug.
-fn write_plug_line(number: usize, reply: WordReply, out: &mut [u8]) -> usize
-    requires { ⌜ length (decimal number) + mostAfterNumber ≤ length (now out) ⌝ }
-    ensures { λ r. ⌜ Wrote (plugLine number (wordReply reply)) (now (out .entry)) r (now (out .exit)) ⌝ }
-{
-    let n = write_decimal(number, out);
-    n + write_reply(reply, &mut out[n..])
-}
-
 // The word of a plug against the polygons of a round, or its refusal.
 fn word_by(vertices: &[u32], counts: RoundCounts, east: i32, north: i32) -> WordReply
     requires { ⌜ AnyPlug (now vertices) counts ⌝ }
@@ -151,6 +145,24 @@ fn word_by(vertices: &[u32], counts: RoundCounts, east: i32, north: i32) -> Word
     WordReply::Given(word)
 }
 
+// Writes the line of a plug, against the polygons of a round.
+fn write_plug_line(
+    vertices: &[u32],
+    counts: RoundCounts,
+    number: usize,
+    east: i32,
+    north: i32,
+    out: &mut [u8],
+) -> usize
+    requires { ⌜ AnyPlug (now vertices) counts × (length (decimal number) + mostAfterNumber ≤ length (now out)) ⌝ }
+    ensures { λ r. ⌜ LineBy (now (vertices .entry)) counts number (point east north)
+        (now (out .entry)) r (now (out .exit)) ⌝ }
+{
+    let n = write_decimal(number, out);
+    let reply = word_by(vertices, counts, east, north);
+    n + write_reply(reply, &mut out[n..])
+}
+
 // Writes the line of each plug, against the polygons of a round.
 fn write_lines(vertices: &[u32], counts: RoundCounts, plugs: &[i32], out: &mut [u8]) -> usize
     requires { ⌜ AnyPlug (now vertices) counts × LineRoom 0 (now plugs) (now out) ⌝ }
@@ -162,8 +174,14 @@ fn write_lines(vertices: &[u32], counts: RoundCounts, plugs: &[i32], out: &mut [
     let mut k: usize = 0;
     while k < count {
         let at = k * 2;
-        let reply = word_by(vertices, counts, plugs[at], plugs[at + 1]);
-        done += write_plug_line(k + 1, reply, &mut out[done..]);
+        done += write_plug_line(
+            vertices,
+            counts,
+            k + 1,
+            plugs[at],
+            plugs[at + 1],
+            &mut out[done..],
+        );
         k += 1;
     }
     done
@@ -210,8 +228,8 @@ pub fn write_text(file: &[u8], text: &mut [u8; TEXT_LENGTH]) -> usize
             text,
         );
     }
-    let mut boxes = [0i32; MOST_READ];
-    let mut plugs = [0i32; MOST_READ];
+    let mut boxes = [0i32; MOST_EDGES];
+    let mut plugs = [0i32; MOST_COORDINATES];
     let reading = files::read_round(file, &mut boxes, &mut plugs);
     match reading {
         Reading::Read(counts) => {

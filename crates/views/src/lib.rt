@@ -114,7 +114,7 @@ fn look_over(boxes: &[i32], corner: Corner, plug: u32, start: View) -> View
     let count = boxes.len() / 4;
     let mut cone = start.cone;
     let mut met = start.met;
-    let mut k: usize = 0;
+    let mut k = pass_cone(boxes, corner, 0, cone, plug);
     while k < count {
         if let Cone::Around(_, _, _) = cone {
             return View { cone, met };

@@ -3,10 +3,10 @@ use mathlib.Core.Path.{subst}
 use Prim.Native.Nat.{_+_, _-_, _*_, _/_, _≤_}
 use native.Mathlib.Omega.{arith}
 use borrow.Author.Needs.{needs}
-use lib.ListN.{length}
+use lib.ListN.{length, take, drop}
 use Rattle.plane.specs.Points.{Point}
 use Rattle.rounds.proofs.Rows.{plugAt}
-use Rattle.printing.specs.Steps.{mostPlugLine, WordBy}
+use Rattle.printing.specs.Steps.{mostPlugLine, LineBy}
 use Rattle.printing.proofs.Writing.{wrote-as}
 use Rattle.printing.proofs.Lines.{Sofar, sofar-none, sofar-length, sofar-room, sofar-part, sofar-more, sofar-all}
 use Rattle.printing.proofs.write_lines.Statement.{statement}
@@ -25,12 +25,17 @@ entry d = d .before .before .before .before
 room : (d : tie.In-loop Inv-loop μ-loop) → d .before .loop .done + mostPlugLine ≤ length (d .before .loop .out)
 room d = sofar-room _ _ _ _ (entry d .pre .1) (d .before .loop .inv) (d .loop-test .taken)
 
--- what the callee says of the plug
-abbrev Word : (c : tie.After-word-by Inv-loop μ-loop) → Point → Type 0
-Word c p = let a = entry (c .before .before .before) .args in WordBy (a .vertices .now) (a .counts) p (c .word-by .result)
+-- the line that was written
+abbrev Line : (w : tie.After-write-plug-line Inv-loop μ-loop) → Point → Type 0
+Line w p =
+    let d = w .before .before .before .before in
+    let a = entry d .args in
+    let l = d .before .loop in
+    LineBy (a .vertices .now) (a .counts) (l .k + 1) p (take (length (l .out) - l .done) (drop (l .done) (l .out))) (w .write-plug-line .result) (w .write-plug-line .last .1 .1 .1 .1 .1 .0)
 
-is-word : (c : tie.After-word-by Inv-loop μ-loop) → Word c (plugAt (entry (c .before .before .before) .args .plugs .now) (c .before .before .before .before .loop .k * 2))
-is-word c = subst (Word c) (search needs) (c .word-by .ensures)
+is-line : (w : tie.After-write-plug-line Inv-loop μ-loop)
+    → let d = w .before .before .before .before in Line w (plugAt (entry d .args .plugs .now) (d .before .loop .k * 2))
+is-line w = subst (Line w) (search needs) (w .write-plug-line .ensures)
 
 loop-holds : tie.Need-loop-holds Inv-loop μ-loop
 loop-holds c = let s = c .before .before in sofar-none _ _ _ _ (s .pre .1)
@@ -38,50 +43,47 @@ loop-holds c = let s = c .before .before in sofar-none _ _ _ _ (s .pre .1)
 mul-at : tie.Need-mul-at Inv-loop μ-loop
 mul-at c = omega arith
 
-mul-word-by : tie.Need-mul-word-by Inv-loop μ-loop
-mul-word-by c = omega arith
-
-shared-slice-copy-out-word-by : tie.Need-shared-slice-copy-out-word-by Inv-loop μ-loop
-shared-slice-copy-out-word-by c = omega arith
-
-add-word-by : tie.Need-add-word-by Inv-loop μ-loop
-add-word-by c = omega arith
-
-mul-word-by-2 : tie.Need-mul-word-by-2 Inv-loop μ-loop
-mul-word-by-2 c = omega arith
-
-shared-slice-copy-out-word-by-2 : tie.Need-shared-slice-copy-out-word-by-2 Inv-loop μ-loop
-shared-slice-copy-out-word-by-2 c = omega arith
-
-word-by-requires : tie.Need-word-by-requires Inv-loop μ-loop
-word-by-requires c κs = entry (c .before .before) .pre .0
-
 add-write-plug-line : tie.Need-add-write-plug-line Inv-loop μ-loop
 add-write-plug-line c = omega arith
 
+mul-write-plug-line : tie.Need-mul-write-plug-line Inv-loop μ-loop
+mul-write-plug-line c = omega arith
+
+shared-slice-copy-out-write-plug-line : tie.Need-shared-slice-copy-out-write-plug-line Inv-loop μ-loop
+shared-slice-copy-out-write-plug-line c = omega arith
+
+add-write-plug-line-2 : tie.Need-add-write-plug-line-2 Inv-loop μ-loop
+add-write-plug-line-2 c = omega arith
+
+mul-write-plug-line-2 : tie.Need-mul-write-plug-line-2 Inv-loop μ-loop
+mul-write-plug-line-2 c = omega arith
+
+shared-slice-copy-out-write-plug-line-2 : tie.Need-shared-slice-copy-out-write-plug-line-2 Inv-loop μ-loop
+shared-slice-copy-out-write-plug-line-2 c = omega arith
+
 sub-write-plug-line : tie.Need-sub-write-plug-line Inv-loop μ-loop
-sub-write-plug-line c = omega (arith, room (c .before .before .before))
+sub-write-plug-line c = omega (arith, room (c .before .before))
 
 part-write-plug-line-start : tie.Need-part-write-plug-line-start Inv-loop μ-loop
-part-write-plug-line-start c = omega (arith, room (c .before .before .before))
+part-write-plug-line-start c = omega (arith, room (c .before .before))
 
 part-write-plug-line-end : tie.Need-part-write-plug-line-end Inv-loop μ-loop
 part-write-plug-line-end c = search needs
 
 write-plug-line-requires : tie.Need-write-plug-line-requires Inv-loop μ-loop
 write-plug-line-requires c κs =
-    let d = c .before .before .before .before in
-    sofar-part _ _ _ _ (entry d .pre .1) (d .before .loop .inv) (d .loop-test .taken)
+    let d = c .before .before .before in
+    (entry d .pre .0, sofar-part _ _ _ _ (entry d .pre .1) (d .before .loop .inv) (d .loop-test .taken))
 
 loop-again : tie.Need-loop-again Inv-loop μ-loop
 loop-again c =
-    let d = c .before .before .before .before .before .before .before in
-    let w = c .before .before .write-plug-line in
-    sofar-more _ _ _ _ (entry d .pre .1) (d .before .loop .inv) (d .loop-test .taken) (is-word (c .before .before .before .before)) (w .ensures)
+    let w = c .before .before in
+    let d = w .before .before .before .before in
+    sofar-more _ _ _ _ (entry d .pre .1) (d .before .loop .inv) (d .loop-test .taken) (is-line w .word) (is-line w .wrote)
 
 add-done : tie.Need-add-done Inv-loop μ-loop
 add-done c =
-    let s = entry (c .before .before .before .before .before .before .before) in
+    let s = entry (c .before .before .before .before .before .before) in
     omega (arith, loop-again c .few, loop-again c .within, s .pre .1 .numbers)
 
 add-k : tie.Need-add-k Inv-loop μ-loop
@@ -108,13 +110,12 @@ write-lines-spec =
     μ-loop
     loop-holds
     mul-at
-    mul-word-by
-    shared-slice-copy-out-word-by
-    add-word-by
-    mul-word-by-2
-    shared-slice-copy-out-word-by-2
-    word-by-requires
     add-write-plug-line
+    mul-write-plug-line
+    shared-slice-copy-out-write-plug-line
+    add-write-plug-line-2
+    mul-write-plug-line-2
+    shared-slice-copy-out-write-plug-line-2
     sub-write-plug-line
     part-write-plug-line-start
     part-write-plug-line-end
