@@ -65,19 +65,19 @@ fn check_box(b: Box, number: usize) -> Checked
 {
     let beyond = has_edge_beyond(b);
     let reversed = is_reversed(b);
+    if !(beyond | reversed) {
+        return Checked::Accepted;
+    }
     if beyond {
         return Checked::Refused(Refusal {
             cause: Cause::EdgeBeyond,
             place: number,
         });
     }
-    if reversed {
-        return Checked::Refused(Refusal {
-            cause: Cause::EdgesReversed,
-            place: number,
-        });
-    }
-    Checked::Accepted
+    Checked::Refused(Refusal {
+        cause: Cause::EdgesReversed,
+        place: number,
+    })
 }
 
 // Checks a box list: 1, 2, 3, then box by box.
