@@ -1,4 +1,4 @@
--- `views::square_to` meets its contract: both parts are read back as they are. Assumes nothing.
+-- `reasons::square_to` meets its contract: both parts are read back as they are. Assumes nothing.
 use mathlib.Core.Path.{_∙_, ap₂}
 use native.Mathlib.Omega.{arith}
 use mir.Syntax.{w32}
@@ -7,8 +7,8 @@ use Rattle.integers.proofs.Lin.{lin}
 use Rattle.turns.specs.Keys.{pointOf}
 use Rattle.turns.proofs.Bounds.{returned}
 use borrow.Author.Needs.{needs}
-use Rattle.views.proofs.square_to.Statement.{statement}
-use Rattle.views.proofs.square_to.Tie as tie
+use Rattle.reasons.proofs.square_to.Statement.{statement}
+use Rattle.reasons.proofs.square_to.Tie as tie
 
 north-between-requires : tie.Need-north-between-requires
 north-between-requires c κs = search needs

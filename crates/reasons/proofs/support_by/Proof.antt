@@ -1,17 +1,17 @@
--- `views::support_by` meets its contract: the cone is the case that is matched. Assumes nothing.
+-- `reasons::support_by` meets its contract: the cone is the case that is matched. Assumes nothing.
 use mathlib.Core.Path.{_≡_, refl, sym, ap, subst, subst₂}
 use Rattle.plane.specs.Points.{Point}
 use Rattle.turns.specs.Keys.{pointOf}
 use Rattle.rounds.specs.declared.Corner.{Corner}
 use Rattle.cones.specs.Cones.{Known}
-use Rattle.views.specs.Answers.{SupportBy}
+use Rattle.reasons.specs.Answers.{SupportBy}
 use Rattle.cones.specs.declared.Cone.{Cone}
-use Rattle.views.specs.declared.Support.{Support}
-use Rattle.views.specs.declared.Support.the-variants.{Reason}
-use Rattle.views.proofs.Answering.{nothing-supports, ray-supports, line-supports, wedge-supports, half-supports, around-supports}
+use Rattle.reasons.specs.declared.Support.{Support}
+use Rattle.reasons.specs.declared.Support.the-variants.{Reason}
+use Rattle.reasons.proofs.Answering.{nothing-supports, ray-supports, line-supports, wedge-supports, half-supports, around-supports}
 use borrow.Author.Needs.{needs}
-use Rattle.views.proofs.support_by.Statement.{statement}
-use Rattle.views.proofs.support_by.Tie as tie
+use Rattle.reasons.proofs.support_by.Statement.{statement}
+use Rattle.reasons.proofs.support_by.Tie as tie
 
 -- what holds of the case and the answer that it gives holds of the cone and of the answer
 same : {p : Point} {corner : Corner} {cone case : Cone} {r answer : Support} → cone ≡ case → r ≡ answer → SupportBy p case corner answer → SupportBy p cone corner r

@@ -1,8 +1,8 @@
--- `views::balance_between` meets its contract: neither dot product is less than 0. Assumes nothing.
-use Rattle.views.proofs.Answering.{past-a, past-b, between-among}
+-- `reasons::balance_between` meets its contract: neither dot product is less than 0. Assumes nothing.
+use Rattle.reasons.proofs.Answering.{past-a, past-b, between-among}
 use borrow.Author.Needs.{needs}
-use Rattle.views.proofs.balance_between.Statement.{statement}
-use Rattle.views.proofs.balance_between.Tie as tie
+use Rattle.reasons.proofs.balance_between.Statement.{statement}
+use Rattle.reasons.proofs.balance_between.Tie as tie
 
 positive-dot-product-requires : tie.Need-positive-dot-product-requires
 positive-dot-product-requires c κs = let w = c .pre .1 in ((w .key-b, w .key-a, c .pre .0), past-b _ _ _ w)

@@ -1,4 +1,4 @@
--- `views::support_of` meets its contract: the first corner that gives a direction, or none does. Assumes nothing.
+-- `reasons::support_of` meets its contract: the first corner that gives a direction, or none does. Assumes nothing.
 use mathlib.Core.Path.{subst}
 use mathlib.Core.List.{List}
 use Rattle.plane.specs.Points.{Point}
@@ -6,11 +6,11 @@ use Rattle.turns.specs.Keys.{pointOf}
 use Rattle.rounds.specs.Boxes.{boxesOf}
 use Rattle.rounds.specs.declared.Box.{Box}
 use Rattle.rounds.specs.declared.Corner.the-variants.{SouthWest, SouthEast, NorthEast}
-use Rattle.views.specs.Answers.{SupportAt}
-use Rattle.views.proofs.Answering.{support-last}
+use Rattle.reasons.specs.Answers.{SupportAt}
+use Rattle.reasons.proofs.Answering.{support-last}
 use borrow.Author.Needs.{needs}
-use Rattle.views.proofs.support_of.Statement.{statement}
-use Rattle.views.proofs.support_of.Tie as tie
+use Rattle.reasons.proofs.support_of.Statement.{statement}
+use Rattle.reasons.proofs.support_of.Tie as tie
 
 -- the boxes and the plug
 module _ (s : tie.Start) where

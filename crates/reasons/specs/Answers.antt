@@ -13,14 +13,14 @@ use Rattle.rounds.specs.declared.Box.{Box}
 use Rattle.rounds.specs.declared.Corner.{Corner}
 use Rattle.rounds.specs.declared.Direction.{Direction}
 use Rattle.cones.specs.Cones.{cornerPoint, Named, ConeSays}
 use Rattle.views.specs.Views.{NoneAt, ViewSays}
 use Rattle.cones.specs.declared.CornerKey.{CornerKey}
 use Rattle.cones.specs.declared.Cone.{Cone}
 use Rattle.views.specs.declared.View.{View}
-use Rattle.views.specs.declared.Support.{Support}
-use Rattle.views.specs.declared.Support.the-variants as Support′
-use Rattle.views.specs.declared.Balance.{Balance}
-use Rattle.views.specs.declared.Balance.the-variants as Balance′
+use Rattle.reasons.specs.declared.Support.{Support}
+use Rattle.reasons.specs.declared.Support.the-variants as Support′
+use Rattle.reasons.specs.declared.Balance.{Balance}
+use Rattle.reasons.specs.declared.Balance.the-variants as Balance′
 
 -- ---- the first driver
 

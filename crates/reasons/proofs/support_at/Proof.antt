@@ -1,7 +1,7 @@
--- `views::support_at` meets its contract: the cone answers. Assumes nothing.
+-- `reasons::support_at` meets its contract: the cone answers. Assumes nothing.
 use borrow.Author.Needs.{needs}
-use Rattle.views.proofs.support_at.Statement.{statement}
-use Rattle.views.proofs.support_at.Tie as tie
+use Rattle.reasons.proofs.support_at.Statement.{statement}
+use Rattle.reasons.proofs.support_at.Tie as tie
 
 view-of-requires : tie.Need-view-of-requires
 view-of-requires c κs = search needs

@@ -1,4 +1,4 @@
--- `views::balance_of` meets its contract: the four corners one after the other are all corners, and three that balance among some balance. Assumes nothing.
+-- `reasons::balance_of` meets its contract: the four corners one after the other are all corners, and three that balance among some balance. Assumes nothing.
 use mathlib.Core.Path.{subst}
 use mathlib.Core.List.{List, _++_}
 use Rattle.plane.specs.Points.{Point}
@@ -6,11 +6,11 @@ use Rattle.turns.specs.Keys.{pointOf}
 use Rattle.rounds.specs.Boxes.{boxesOf, cornersOf, allCorners}
 use Rattle.rounds.specs.declared.Box.{Box}
 use Rattle.rounds.specs.declared.Corner.the-variants.{SouthWest, SouthEast, NorthEast}
 use Rattle.views.specs.Views.{ViewSays}
-use Rattle.views.specs.Answers.{BalanceAt}
+use Rattle.reasons.specs.Answers.{BalanceAt}
 use borrow.Author.Needs.{needs}
-use Rattle.views.proofs.balance_of.Statement.{statement}
-use Rattle.views.proofs.balance_of.Tie as tie
+use Rattle.reasons.proofs.balance_of.Statement.{statement}
+use Rattle.reasons.proofs.balance_of.Tie as tie
 
 -- the boxes, the plug, and the corners so far
 module _ (s : tie.Start) where

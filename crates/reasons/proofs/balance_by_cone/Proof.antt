@@ -1,15 +1,15 @@
--- `views::balance_by_cone` meets its contract: the cone is the case that is matched. Assumes nothing.
+-- `reasons::balance_by_cone` meets its contract: the cone is the case that is matched. Assumes nothing.
 use mathlib.Core.Path.{_≡_, sym, subst}
 use Rattle.plane.specs.Points.{Point}
 use Rattle.turns.specs.Keys.{pointOf}
 use Rattle.cones.specs.Cones.{Known}
-use Rattle.views.specs.Answers.{BalanceByCone}
+use Rattle.reasons.specs.Answers.{BalanceByCone}
 use Rattle.cones.specs.declared.Cone.{Cone}
-use Rattle.views.specs.declared.Balance.{Balance}
-use Rattle.views.proofs.Answering.{nothing-separates, ray-separates, wedge-separates, line-balances, half-balances, around-balances, line-between, half-between, around-triangle}
+use Rattle.reasons.specs.declared.Balance.{Balance}
+use Rattle.reasons.proofs.Answering.{nothing-separates, ray-separates, wedge-separates, line-balances, half-balances, around-balances, line-between, half-between, around-triangle}
 use borrow.Author.Needs.{needs}
-use Rattle.views.proofs.balance_by_cone.Statement.{statement}
-use Rattle.views.proofs.balance_by_cone.Tie as tie
+use Rattle.reasons.proofs.balance_by_cone.Statement.{statement}
+use Rattle.reasons.proofs.balance_by_cone.Tie as tie
 
 -- what holds of the case holds of the cone
 same : {p : Point} {cone case : Cone} {r : Balance} → cone ≡ case → BalanceByCone p case r → BalanceByCone p cone r

@@ -1,10 +1,10 @@
--- `views::balance_by` meets its contract: a corner that is the plug balances alone, and else the cone answers. Assumes nothing.
+-- `reasons::balance_by` meets its contract: a corner that is the plug balances alone, and else the cone answers. Assumes nothing.
 use mathlib.Core.Path.{subst}
 use Rattle.views.specs.Views.{MetSays}
-use Rattle.views.proofs.Answering.{plug-holds}
+use Rattle.reasons.proofs.Answering.{plug-holds}
 use borrow.Author.Needs.{needs}
-use Rattle.views.proofs.balance_by.Statement.{statement}
-use Rattle.views.proofs.balance_by.Tie as tie
+use Rattle.reasons.proofs.balance_by.Statement.{statement}
+use Rattle.reasons.proofs.balance_by.Tie as tie
 
 enum-known-met : tie.Need-enum-known-met
 enum-known-met c = search needs

@@ -1,9 +1,9 @@
--- `views::balance_in_triangle` meets its contract: none of the three areas is less than 0. Assumes nothing.
+-- `reasons::balance_in_triangle` meets its contract: none of the three areas is less than 0. Assumes nothing.
 use Rattle.integers.proofs.Order.{<→≤}
-use Rattle.views.proofs.Answering.{triangle-among}
+use Rattle.reasons.proofs.Answering.{triangle-among}
 use borrow.Author.Needs.{needs}
-use Rattle.views.proofs.balance_in_triangle.Statement.{statement}
-use Rattle.views.proofs.balance_in_triangle.Tie as tie
+use Rattle.reasons.proofs.balance_in_triangle.Statement.{statement}
+use Rattle.reasons.proofs.balance_in_triangle.Tie as tie
 
 positive-area-requires : tie.Need-positive-area-requires
 positive-area-requires c κs = let w = c .pre .1 in ((c .pre .0, w .key-b, w .key-c), <→≤ (w .of-b-c))

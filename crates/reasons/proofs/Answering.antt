@@ -28,14 +28,14 @@ use Rattle.rounds.specs.declared.Corner.{Corner}
 use Rattle.rounds.specs.declared.Corner.the-variants.{SouthWest, SouthEast, NorthEast, NorthWest}
 use Rattle.rounds.proofs.Corners.{by-corner}
 use Rattle.cones.specs.Cones.{cornerPoint, entryOf, Named, AllOnRay, AllOnLine, AllInWedge, AllInHalf, IsAround}
 use Rattle.views.specs.Views.{IsPlug}
-use Rattle.views.specs.Answers.{squareTo, SupportAt, SupportSays, SupportBy, BetweenCorners, InTriangle, BalanceAmong, BalanceByCone}
+use Rattle.reasons.specs.Answers.{squareTo, SupportAt, SupportSays, SupportBy, BetweenCorners, InTriangle, BalanceAmong, BalanceByCone}
 use Rattle.cones.specs.declared.CornerKey.{CornerKey}
 use Rattle.cones.specs.declared.Cone.the-variants.{Nothing, Ray, Line, Wedge, Half, Around}
-use Rattle.views.specs.declared.Support.{Support}
-use Rattle.views.specs.declared.Support.the-variants as Support′
-use Rattle.views.specs.declared.Balance.{Balance}
-use Rattle.views.specs.declared.Balance.the-variants as Balance′
+use Rattle.reasons.specs.declared.Support.{Support}
+use Rattle.reasons.specs.declared.Support.the-variants as Support′
+use Rattle.reasons.specs.declared.Balance.{Balance}
+use Rattle.reasons.specs.declared.Balance.the-variants as Balance′
 use Rattle.cones.proofs.Turns.{apart-a, apart-opposite, back-ahead, ray-strict, wedge-strict}
 
 -- ---- the first ray of a cone: no point is right of it
