@@ -13,12 +13,13 @@ use Rattle.rounds.specs.declared.Refusal.{Refusal}
 use Rattle.formats.specs.Format.{markLength, fileBoxAt, filePlugAt}
 use Rattle.formats.specs.Content.{Content, contentOf}
 use Rattle.formats.specs.Promises.{edges, coordinates}
-use Rattle.files.specs.Steps.{over, Room, BuffersFilled}
-use Rattle.files.specs.declared.Record.the-variants.{Box, Plug, Note, End, Refused}
-use Rattle.files.proofs.Over.{Sofar, sofar-none, sofar-more, sofar-all, room, wrote-length}
+use Rattle.file_records.specs.Records.{over}
+use Rattle.files.specs.Steps.{Room, BuffersFilled}
+use Rattle.file_records.specs.declared.Record.the-variants.{Box, Plug, Note, End, Refused}
+use Rattle.file_records.proofs.Over.{Sofar, sofar-none, sofar-more, sofar-all, room, wrote-length}
 use Rattle.formats.proofs.Bytes.{length-flat}
 use Rattle.formats.proofs.Scan.{scan, from-start}
-use Rattle.files.proofs.Records.{RecordFound, rest-is}
+use Rattle.file_records.proofs.Records.{RecordFound, rest-is}
 
 -- after so many numbers of boxes and of plugs, with the rest to come
 pub record FilledSofar (file : List ℕ) (boxes₀ plugs₀ : List ℤ) (rest : Content) (edge coordinate : ℕ) (boxes plugs : List ℤ) : Type 0 where

@@ -10,9 +10,9 @@ use Rattle.rounds.specs.declared.Refusal.{Refusal}
 use Rattle.formats.specs.Content.{Content, contentOf}
 use Rattle.formats.specs.declared.Reading.the-variants as Reading′
 use Rattle.files.specs.Steps.{judgement}
-use Rattle.files.specs.declared.Record.the-variants.{Box, Plug, Note, End, Refused}
+use Rattle.file_records.specs.declared.Record.the-variants.{Box, Plug, Note, End, Refused}
 use Rattle.formats.proofs.Scan.{scan, from-start, short}
-use Rattle.files.proofs.Records.{RecordFound, rest-is}
+use Rattle.file_records.proofs.Records.{RecordFound, rest-is}
 
 -- the rest, from an offset on, after so many boxes and plugs
 pub record Judged (file : List ℕ) (boxes plugs : ℕ) (rest : Content) : Type 0 where

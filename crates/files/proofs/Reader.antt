@@ -15,7 +15,7 @@ use Rattle.formats.specs.declared.Counts.{Counts}
 use Rattle.formats.specs.declared.Reading.the-variants.{Read, Refused}
 use Rattle.formats.proofs.Scan.{short}
 use Rattle.files.specs.Steps.{readingUnder, judgement, Room, BuffersFilled}
-use Rattle.files.proofs.Over.{over-front}
+use Rattle.file_records.proofs.Over.{over-front}
 use Rattle.files.proofs.Buffers.{fits-buffer}
 
 -- ---- what the judging pass says

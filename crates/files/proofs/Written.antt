@@ -12,8 +12,8 @@ use Rattle.formats.specs.Format.{endMark, boxLength, plugLength, markBytes, box
 use Rattle.formats.specs.Promises.{byteCount, writerFault, RoundWritten}
 use Rattle.formats.specs.declared.Writing.the-variants.{Written, Refused}
 use Rattle.formats.proofs.Bytes.{length-boxes, length-plugs, length-end}
-use Rattle.files.specs.Steps.{over}
-use Rattle.files.proofs.Over.{over-front, WroteAt, wrote-none, then-over}
+use Rattle.file_records.specs.Records.{over}
+use Rattle.file_records.proofs.Over.{over-front, WroteAt, wrote-none, then-over}
 
 -- the records of the boxes and of the plugs of two flat lists, and the offsets after them
 abbrev boxBytes : List ℤ → List ℕ

@@ -8,11 +8,11 @@ use lib.Dec.{ltb}
 use lib.ListN.{length}
 use Rattle.formats.specs.Content.{contentOf}
 use Rattle.files.specs.Steps.{Room}
-use Rattle.files.specs.declared.Record.{Record}
-use Rattle.files.specs.declared.Record.the-variants.{Box, Plug, Note}
-use Rattle.files.proofs.Over.{wrote-length}
+use Rattle.file_records.specs.declared.Record.{Record}
+use Rattle.file_records.specs.declared.Record.the-variants.{Box, Plug, Note}
+use Rattle.file_records.proofs.Over.{wrote-length}
 use Rattle.formats.proofs.Scan.{scan}
-use Rattle.files.proofs.Records.{RecordFound, found, next-is}
+use Rattle.file_records.proofs.Records.{RecordFound, found, next-is}
 use Rattle.files.proofs.Filling.{FilledSofar, filled-start, filled-box, filled-plug, filled-note, filled-end, no-fault, room-for-box, room-for-plug}
 use Rattle.files.proofs.fill.Statement.{statement}
 use Rattle.files.proofs.fill.Tie as tie

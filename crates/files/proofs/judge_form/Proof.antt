@@ -5,10 +5,10 @@ use native.Mathlib.Omega.{arith}
 use borrow.Author.Needs.{needs}
 use lib.Dec.{ltb}
 use lib.ListN.{length}
-use Rattle.files.specs.declared.Record.{Record}
-use Rattle.files.specs.declared.Record.the-variants.{Box, Plug, Note}
+use Rattle.file_records.specs.declared.Record.{Record}
+use Rattle.file_records.specs.declared.Record.the-variants.{Box, Plug, Note}
 use Rattle.formats.proofs.Scan.{scan}
-use Rattle.files.proofs.Records.{RecordFound, found, next-is}
+use Rattle.file_records.proofs.Records.{RecordFound, found, next-is}
 use Rattle.files.proofs.Judging.{Judged, judged-start, judged-box, judged-plug, judged-note, judged-end, judged-fault, few-boxes, few-plugs}
 use Rattle.files.proofs.judge_form.Statement.{statement}
 use Rattle.files.proofs.judge_form.Tie as tie

@@ -6,9 +6,9 @@ use native.Mathlib.Omega.{arith}
 use lib.ListN.{length}
 use Rattle.rounds.specs.Boxes.{boxesOf, boxAt}
 use Rattle.formats.specs.Format.{boxLength, boxRecord}
-use Rattle.files.specs.Steps.{over}
-use Rattle.files.proofs.Over.{Sofar, sofar-none, sofar-all, wrote-length}
-use Rattle.files.proofs.Writer.{boxRecords, no-box, boxEncoding, row-turn}
+use Rattle.file_records.specs.Records.{over}
+use Rattle.file_records.proofs.Over.{Sofar, sofar-none, sofar-all, wrote-length}
+use Rattle.file_records.proofs.Writer.{boxRecords, no-box, boxEncoding, row-turn}
 use Rattle.files.proofs.write_boxes.Statement.{statement}
 use Rattle.files.proofs.write_boxes.Tie as tie
 

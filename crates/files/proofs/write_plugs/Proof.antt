@@ -8,9 +8,9 @@ use Rattle.integers.proofs.Tests.{elem}
 use Rattle.rounds.specs.Boxes.{plugsOf}
 use Rattle.rounds.proofs.Rows.{plugAt}
 use Rattle.formats.specs.Format.{plugLength, plugRecord}
-use Rattle.files.specs.Steps.{over}
-use Rattle.files.proofs.Over.{Sofar, sofar-none, sofar-all, wrote-length}
-use Rattle.files.proofs.Writer.{plugRecords, no-plug, plugEncoding, row-turn, plug-plain}
+use Rattle.file_records.specs.Records.{over}
+use Rattle.file_records.proofs.Over.{Sofar, sofar-none, sofar-all, wrote-length}
+use Rattle.file_records.proofs.Writer.{plugRecords, no-plug, plugEncoding, row-turn, plug-plain}
 use Rattle.files.proofs.write_plugs.Statement.{statement}
 use Rattle.files.proofs.write_plugs.Tie as tie
 

@@ -1,0 +1,46 @@
+-- `file_records::mark_at` meets its contract. A byte is below 256. Assumes nothing.
+use mathlib.Core.Path.{refl}
+use Prim.Native.Nat.{_+_}
+use native.Mathlib.Omega.{arith}
+use borrow.Author.Needs.{needs}
+use Rattle.formats.specs.Format.{markAt}
+use Rattle.file_records.proofs.mark_at.Statement.{statement}
+use Rattle.file_records.proofs.mark_at.Tie as tie
+
+shared-slice-read-result : tie.Need-shared-slice-read-result
+shared-slice-read-result c = search needs
+
+cast-result : tie.Need-cast-result
+cast-result c = omega (arith, c .shared-slice-known .given (c .before .args .at))
+
+mul-result : tie.Need-mul-result
+mul-result c = omega (arith, c .shared-slice-known .given (c .before .args .at))
+
+add-result : tie.Need-add-result
+add-result c = search needs
+
+shared-slice-read-result-2 : tie.Need-shared-slice-read-result-2
+shared-slice-read-result-2 c = search needs
+
+cast-result-2 : tie.Need-cast-result-2
+cast-result-2 c = omega (arith, c .shared-slice-known2 .given (c .before .before .args .at + 1))
+
+add-result-2 : tie.Need-add-result-2
+add-result-2 c = omega (arith, c .shared-slice-known2 .given (c .before .before .args .at), c .shared-slice-known2 .given (c .before .before .args .at + 1))
+
+returns : tie.Need-returns
+unfolding markAt
+returns c = refl
+
+pub mark-at-spec : {M : Type 1} → statement M
+mark-at-spec =
+    tie.close
+    (tie.spec
+    shared-slice-read-result
+    cast-result
+    mul-result
+    add-result
+    shared-slice-read-result-2
+    cast-result-2
+    add-result-2
+    returns)
