@@ -95,7 +95,7 @@ pub fn outer_struct(reply: OuterReply) -> OuterAnswer
         OuterReply::Refused(refusal) => {
             let cause = refusal.cause;
             OuterAnswer {
-                refused: checks::number_of(cause),
+                refused: causes::number_of(cause),
                 place: refusal.place,
                 vertices: 0,
             }
@@ -119,7 +119,7 @@ pub fn corners_struct(reply: CornersReply) -> CornersAnswer
         CornersReply::Refused(refusal) => {
             let cause = refusal.cause;
             CornersAnswer {
-                refused: checks::number_of(cause),
+                refused: causes::number_of(cause),
                 place: refusal.place,
                 southwest: 0,
                 southeast: 0,
@@ -208,7 +208,7 @@ pub fn verdict_struct(verdict: Verdict) -> VerdictAnswer
         Verdict::Undecided(reasons) => reasoned_struct(reasons),
         Verdict::Refused(refusal) => {
             let cause = refusal.cause;
-            plain_struct(checks::number_of(cause), refusal.place, 0)
+            plain_struct(causes::number_of(cause), refusal.place, 0)
         }
     }
 }
@@ -237,7 +237,7 @@ pub fn word_struct(reply: WordReply) -> WordAnswer
         WordReply::Refused(refusal) => {
             let cause = refusal.cause;
             WordAnswer {
-                refused: checks::number_of(cause),
+                refused: causes::number_of(cause),
                 place: refusal.place,
                 word: 0,
             }
@@ -259,7 +259,7 @@ pub fn read_struct(reading: Reading) -> ReadAnswer
         Reading::Refused(refusal) => {
             let cause = refusal.cause;
             ReadAnswer {
-                refused: checks::number_of(cause),
+                refused: causes::number_of(cause),
                 place: refusal.place,
                 boxes: 0,
                 plugs: 0,
@@ -281,7 +281,7 @@ pub fn write_struct(writing: Writing) -> WriteAnswer
         Writing::Refused(refusal) => {
             let cause = refusal.cause;
             WriteAnswer {
-                refused: checks::number_of(cause),
+                refused: causes::number_of(cause),
                 place: refusal.place,
                 bytes: 0,
             }

@@ -91,7 +91,7 @@ pub fn print_count(count: usize) {
 pub fn print_refusal(refusal: Refusal) {
     let cause = refusal.cause;
     print_text(b"refused");
-    print_count(checks::number_of(cause) as usize);
+    print_count(causes::number_of(cause) as usize);
     print_count(refusal.place);
 }
 

@@ -1,70 +1,20 @@
-// The checks of a box list, a plug, a plug list and a lent buffer's length: causes 1 to 7 of document 01's table; and
-// the number of each cause.
-ghost use mathlib.Core.Bool.{_||_};
+// The checks of a box list, a plug, a plug list and a lent buffer's length: causes 1 to 7 of document 01's table.
 ghost use mathlib.Core.Path.{_≡_};
 ghost use Rattle.plane.specs.Points.{point};
-ghost use Rattle.rounds.specs.Refusals.{numberOf, faultOf, _orElse_, beyond, edgeBeyond, edgesReversed, boxFault};
+ghost use Rattle.rounds.specs.Refusals.{faultOf, _orElse_, boxFault};
 ghost use Rattle.rounds.specs.Refusals.{boxListFault, plugFault, plugListFault, bufferFault, areaFault, verdictFault};
-use plane::SPAN;
 use rounds::Box;
 use rounds::Cause;
 use rounds::Checked;
 use rounds::MOST_BOXES;
 use rounds::Refusal;
 
-// The number of a cause.
-pub fn number_of(cause: Cause) -> u32
-    ensures { λ r. ⌜ r ≡ numberOf cause ⌝ }
-{
-    match cause {
-        Cause::ListLength => 1,
-        Cause::NoBox => 2,
-        Cause::TooManyBoxes => 3,
-        Cause::EdgeBeyond => 4,
-        Cause::EdgesReversed => 5,
-        Cause::PlugBeyond => 6,
-        Cause::BufferShort => 7,
-        Cause::UnknownMark => 8,
-        Cause::CutShort => 9,
-        Cause::BoxAfterPlug => 10,
-        Cause::ByteAfterEnd => 11,
-        Cause::InputTooLong => 12,
-    }
-}
-
-// The least coordinate.
-const LEAST: i32 = -SPAN;
-
-// Whether a coordinate is beyond ±16,000.
-fn is_beyond(x: i32) -> bool
-    ensures { λ r. ⌜ r ≡ beyond x ⌝ }
-{
-    if x < LEAST {
-        return true;
-    }
-    SPAN < x
-}
-
-// Whether an edge of a box is beyond ±16,000.
-fn has_edge_beyond(b: Box) -> bool
-    ensures { λ r. ⌜ r ≡ edgeBeyond b ⌝ }
-{
-    is_beyond(b.west) | (is_beyond(b.south) | (is_beyond(b.east) | is_beyond(b.north)))
-}
-
-// Whether west is over east, or south over north.
-fn is_reversed(b: Box) -> bool
-    ensures { λ r. ⌜ r ≡ edgesReversed b ⌝ }
-{
-    (b.east < b.west) | (b.north < b.south)
-}
-
 // Checks box number `number`: 4 before 5.
 fn check_box(b: Box, number: usize) -> Checked
     ensures { λ r. ⌜ faultOf r ≡ boxFault number b ⌝ }
 {
-    let beyond = has_edge_beyond(b);
-    let reversed = is_reversed(b);
+    let beyond = bounds::has_edge_beyond(b);
+    let reversed = bounds::is_reversed(b);
     if !(beyond | reversed) {
         return Checked::Accepted;
     }
@@ -119,13 +69,13 @@ pub fn check_boxes(boxes: &[i32]) -> Checked
 pub fn check_plug(east: i32, north: i32, number: usize) -> Checked
     ensures { λ r. ⌜ faultOf r ≡ plugFault number (point east north) ⌝ }
 {
-    if is_beyond(east) {
+    if bounds::is_beyond(east) {
         return Checked::Refused(Refusal {
             cause: Cause::PlugBeyond,
             place: number,
         });
     }
-    if is_beyond(north) {
+    if bounds::is_beyond(north) {
         return Checked::Refused(Refusal {
             cause: Cause::PlugBeyond,
             place: number,

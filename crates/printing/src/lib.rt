@@ -96,7 +96,7 @@ fn write_refusal(refusal: Refusal, out: &mut [u8]) -> usize
         (refusedLine (numberOf (refusal .cause)) (refusal .place)) (now (out .entry)) r (now (out .exit)) ⌝ }
 {
     let cause = refusal.cause;
-    let number = checks::number_of(cause) as usize;
+    let number = causes::number_of(cause) as usize;
     write_fields(b"refused ", number, b" ", refusal.place, out)
 }
 

@@ -1,10 +1,10 @@
--- `checks::is_beyond` meets its contract. Assumes nothing.
+-- `bounds::is_beyond` meets its contract. Assumes nothing.
 use mathlib.Core.Path.{sym, _∙_}
 use lib.IntN.{pos, negsuc}
 use Rattle.integers.proofs.Tests.{lit, ltz}
 use Rattle.rounds.specs.Refusals.{beyond}
-use Rattle.checks.proofs.is_beyond.Statement.{statement}
-use Rattle.checks.proofs.is_beyond.Tie as tie
+use Rattle.bounds.proofs.is_beyond.Statement.{statement}
+use Rattle.bounds.proofs.is_beyond.Tie as tie
 
 returns : tie.Need-returns
 unfolding beyond

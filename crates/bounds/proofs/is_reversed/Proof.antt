@@ -1,10 +1,10 @@
--- `checks::is_reversed` meets its contract: both tests, joined. Assumes nothing.
+-- `bounds::is_reversed` meets its contract: both tests, joined. Assumes nothing.
 use mathlib.Core.Path.{ap₂}
 use mathlib.Core.Bool.{_||_}
 use Rattle.integers.proofs.Tests.{ltz, ok}
 use Rattle.rounds.specs.Refusals.{edgesReversed}
-use Rattle.checks.proofs.is_reversed.Statement.{statement}
-use Rattle.checks.proofs.is_reversed.Tie as tie
+use Rattle.bounds.proofs.is_reversed.Statement.{statement}
+use Rattle.bounds.proofs.is_reversed.Tie as tie
 
 returns : tie.Need-returns
 unfolding edgesReversed

@@ -1,10 +1,10 @@
--- `checks::has_edge_beyond` meets its contract: the four tests, joined. Assumes nothing.
+-- `bounds::has_edge_beyond` meets its contract: the four tests, joined. Assumes nothing.
 use mathlib.Core.Path.{_≡_, _∙_, ap₂}
 use mathlib.Core.Bool.{_||_}
 use borrow.Author.Needs.{needs}
 use Rattle.rounds.specs.Refusals.{beyond, edgeBeyond}
-use Rattle.checks.proofs.has_edge_beyond.Statement.{statement}
-use Rattle.checks.proofs.has_edge_beyond.Tie as tie
+use Rattle.bounds.proofs.has_edge_beyond.Statement.{statement}
+use Rattle.bounds.proofs.has_edge_beyond.Tie as tie
 
 is-beyond-requires : tie.Need-is-beyond-requires
 is-beyond-requires c κs = search needs
