@@ -1,2 +1,2 @@
--- Listing: polygons written one behind another, and the two calls' promises.
+-- Listing: the two calls' promises.
 pub mod Listing

@@ -1,7 +1,7 @@
 -- What the outer polygon's call and the corner polygons' call promise. Only the start of each polygon is left open (plane's Polygon says what holds of it). Definitions only.
 use mathlib.Core.Path.{_≡_}
 use mathlib.Core.List.{List, _++_}
-use Prim.Native.Nat.{ℕ, _*_, _/_}
+use Prim.Native.Nat.{ℕ}
 use lib.IntN.{ℤ}
 use lib.ListN.{length}
 use Rattle.plane.specs.Points.{Point}
@@ -10,7 +10,7 @@ use Rattle.rounds.specs.Boxes.{boxesOf, cornersOf, allCorners}
 use Rattle.rounds.specs.Refusals.{Fault, none, fault, refusalFault, areaFault}
 use Rattle.rounds.specs.declared.Cause.{Cause}
 use Rattle.rounds.specs.declared.Corner.the-variants.{SouthWest, SouthEast, NorthEast, NorthWest}
-use Rattle.listings.specs.Listings.{answered}
+use Rattle.listings.specs.Listings.{needed, answered}
 use Rattle.areas.specs.declared.OuterReply.{OuterReply}
 use Rattle.areas.specs.declared.CornersReply.{CornersReply}
 
@@ -22,10 +22,6 @@ outerFault (OuterReply.Refused refusal) = refusalFault refusal
 abbrev pub cornersFault : CornersReply → Fault
 cornersFault (CornersReply.Vertices counts) = none
 cornersFault (CornersReply.Refused refusal) = refusalFault refusal
-
--- the numbers that a polygon call needs: 8 × N with N boxes
-abbrev pub needed : List ℤ → ℕ
-needed boxes = 8 * (length boxes / 4)
 
 -- the outer polygon, the hull of all four corners of all boxes, is counted in the reply and stands in the buffer
 pub record OuterListed (boxes before : List ℤ) (reply : OuterReply) (after : List ℤ) : Type 0 where

@@ -3,7 +3,7 @@ use Rattle.areas.specs.declared.OuterReply.{OuterReply}
 use Rattle.areas.specs.declared.OuterReply.the-variants as OuterReply′
 use Rattle.areas.specs.declared.CornersReply.{CornersReply}
 use Rattle.areas.specs.declared.CornersReply.the-variants as CornersReply′
-use Rattle.areas.specs.declared.VertexCounts.{VertexCounts}
+use Rattle.polygons.specs.declared.VertexCounts.{VertexCounts}
 use Rattle.rounds.specs.Refusals.{numberOf}
 use Rattle.c_answers.specs.Answers.{unlessRefused}
 use Rattle.c_answers.specs.declared.OuterAnswer.{OuterAnswer}

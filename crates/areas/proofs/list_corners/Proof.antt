@@ -3,7 +3,8 @@ use Prim.Native.Nat.{_*_, _/_, _≤_}
 use native.Mathlib.Omega.{arith}
 use borrow.Author.Needs.{needs}
 use lib.ListN.{length}
-use Rattle.areas.proofs.Listing.{few, sum, corners-zeroed}
+use Rattle.polygons.proofs.Behind.{few}
+use Rattle.areas.proofs.Listing.{sum, corners-zeroed}
 use Rattle.areas.proofs.list_corners.Statement.{statement}
 use Rattle.areas.proofs.list_corners.Tie as tie
 

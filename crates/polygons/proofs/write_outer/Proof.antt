@@ -1,10 +1,10 @@
--- `areas::write_outer` meets its contract: scratch for 32 boxes, for 256 or for 1,024 is enough for as many. Assumes nothing.
+-- `polygons::write_outer` meets its contract: scratch for 32 boxes, for 256 or for 1,024 is enough for as many. Assumes nothing.
 use Prim.Native.Nat.{_≤_}
 use native.Mathlib.Omega.{arith}
 use borrow.Author.Needs.{needs}
 use lib.ListN.{length}
-use Rattle.areas.proofs.write_outer.Statement.{statement}
-use Rattle.areas.proofs.write_outer.Tie as tie
+use Rattle.polygons.proofs.write_outer.Statement.{statement}
+use Rattle.polygons.proofs.write_outer.Tie as tie
 
 slice-aggregate-write-outer-in : tie.Need-slice-aggregate-write-outer-in
 slice-aggregate-write-outer-in c = search needs

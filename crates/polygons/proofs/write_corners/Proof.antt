@@ -1,10 +1,10 @@
--- `areas::write_corners` meets its contract: scratch for 32 boxes, for 256 or for 1,024 is enough for as many. Assumes nothing.
+-- `polygons::write_corners` meets its contract: scratch for 32 boxes, for 256 or for 1,024 is enough for as many. Assumes nothing.
 use Prim.Native.Nat.{_/_, _≤_}
 use native.Mathlib.Omega.{arith}
 use borrow.Author.Needs.{needs}
 use lib.ListN.{length}
-use Rattle.areas.proofs.write_corners.Statement.{statement}
-use Rattle.areas.proofs.write_corners.Tie as tie
+use Rattle.polygons.proofs.write_corners.Statement.{statement}
+use Rattle.polygons.proofs.write_corners.Tie as tie
 
 slice-aggregate-write-corners-in : tie.Need-slice-aggregate-write-corners-in
 slice-aggregate-write-corners-in c = search needs

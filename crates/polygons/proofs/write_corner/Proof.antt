@@ -1,13 +1,13 @@
--- `areas::write_corner` meets its contract: the points of the polygon's keys are its vertices. Assumes nothing.
+-- `polygons::write_corner` meets its contract: the points of the polygon's keys are its vertices. Assumes nothing.
 use mathlib.Core.Path.{_≡_, sym}
 use Prim.Native.Nat.{_/_, _≤_}
 use native.Mathlib.Omega.{arith}
 use borrow.Author.Needs.{needs}
 use lib.ListN.{length, take}
 use lib.Seq.{length-take-le}
-use Rattle.areas.proofs.Listing.{few, written}
-use Rattle.areas.proofs.write_corner.Statement.{statement}
-use Rattle.areas.proofs.write_corner.Tie as tie
+use Rattle.polygons.proofs.Behind.{few, written}
+use Rattle.polygons.proofs.write_corner.Statement.{statement}
+use Rattle.polygons.proofs.write_corner.Tie as tie
 
 abbrev entry : tie.After-corner-outline → tie.Start
 entry c = c .before .before .before .before .before .before .before

@@ -1,11 +1,11 @@
--- `areas::append_two_corners` meets its contract: the second polygon stands behind the first. Assumes nothing.
+-- `polygons::append_two_corners` meets its contract: the second polygon stands behind the first. Assumes nothing.
 use Prim.Native.Nat.{_/_, _≤_}
 use native.Mathlib.Omega.{arith}
 use borrow.Author.Needs.{needs}
 use lib.ListN.{length}
-use Rattle.areas.proofs.Listing.{few, two-written}
-use Rattle.areas.proofs.append_two_corners.Statement.{statement}
-use Rattle.areas.proofs.append_two_corners.Tie as tie
+use Rattle.polygons.proofs.Behind.{few, two-written}
+use Rattle.polygons.proofs.append_two_corners.Statement.{statement}
+use Rattle.polygons.proofs.append_two_corners.Tie as tie
 
 -- the places at the entry and after the first call
 abbrev entry : tie.After-append-corner → tie.Start

@@ -1,8 +1,8 @@
--- `areas::append_corner` meets its contract: what is written over the part that is lent on is written over the whole. Assumes nothing.
+-- `polygons::append_corner` meets its contract: what is written over the part that is lent on is written over the whole. Assumes nothing.
 use borrow.Author.Needs.{needs}
-use Rattle.areas.proofs.Listing.{written-behind}
-use Rattle.areas.proofs.append_corner.Statement.{statement}
-use Rattle.areas.proofs.append_corner.Tie as tie
+use Rattle.polygons.proofs.Behind.{written-behind}
+use Rattle.polygons.proofs.append_corner.Statement.{statement}
+use Rattle.polygons.proofs.append_corner.Tie as tie
 
 mul-write-corner : tie.Need-mul-write-corner
 mul-write-corner c = search needs

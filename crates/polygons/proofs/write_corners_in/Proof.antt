@@ -1,12 +1,12 @@
--- `areas::write_corners_in` meets its contract: the northern polygons stand behind the southern ones. Assumes nothing.
+-- `polygons::write_corners_in` meets its contract: the northern polygons stand behind the southern ones. Assumes nothing.
 use Prim.Native.Nat.{_+_, _*_, _/_, _≤_}
 use native.Mathlib.Omega.{arith}
 use borrow.Author.Needs.{needs}
 use lib.ListN.{length}
 use Rattle.rounds.specs.Boxes.{boxesOf}
-use Rattle.areas.proofs.Listing.{few, corners-written}
-use Rattle.areas.proofs.write_corners_in.Statement.{statement}
-use Rattle.areas.proofs.write_corners_in.Tie as tie
+use Rattle.polygons.proofs.Behind.{few, corners-written}
+use Rattle.polygons.proofs.write_corners_in.Statement.{statement}
+use Rattle.polygons.proofs.write_corners_in.Tie as tie
 
 -- the places at the entry and after the southern polygons
 abbrev entry : tie.After-append-two-corners → tie.Start

@@ -1,4 +1,4 @@
--- What the steps of the two calls write into a lent buffer; callers do not see these. Definitions only.
+-- Polygons written into a lent buffer, one behind another. Definitions only.
 use mathlib.Core.Path.{_≡_}
 use mathlib.Core.List.{List, _++_}
 use Prim.Native.Nat.{ℕ, _≤_}
@@ -11,7 +11,7 @@ use Rattle.rounds.specs.declared.Box.{Box}
 use Rattle.rounds.specs.declared.Corner.the-variants.{SouthWest, SouthEast, NorthEast, NorthWest}
 use Rattle.outlines.specs.declared.TwoCounts.{TwoCounts}
 use Rattle.listings.specs.Listings.{flat, overFront}
-use Rattle.areas.specs.declared.VertexCounts.{VertexCounts}
+use Rattle.polygons.specs.declared.VertexCounts.{VertexCounts}
 
 -- a polygon of the points qs, its start left open, and how many vertices it has
 pub record PolygonCounted (qs vertices : List Point) (count : ℕ) : Type 0 where

@@ -1,4 +1,4 @@
--- `areas::write_outer_in` meets its contract: the points of the polygon's keys are its vertices. Assumes nothing.
+-- `polygons::write_outer_in` meets its contract: the points of the polygon's keys are its vertices. Assumes nothing.
 use mathlib.Core.Path.{_≡_, sym}
 use Prim.Native.Nat.{_≤_}
 use native.Mathlib.Omega.{arith}
@@ -6,9 +6,9 @@ use borrow.Author.Needs.{needs}
 use lib.ListN.{length, take}
 use lib.Seq.{length-take-le}
 use Rattle.outlines.proofs.Polygons.{all-length}
-use Rattle.areas.proofs.Listing.{few, written}
-use Rattle.areas.proofs.write_outer_in.Statement.{statement}
-use Rattle.areas.proofs.write_outer_in.Tie as tie
+use Rattle.polygons.proofs.Behind.{few, written}
+use Rattle.polygons.proofs.write_outer_in.Statement.{statement}
+use Rattle.polygons.proofs.write_outer_in.Tie as tie
 
 abbrev entry : tie.After-outer-outline → tie.Start
 entry c = c .before .before .before .before .before .before .before

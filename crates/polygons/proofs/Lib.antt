@@ -1,0 +1,2 @@
+-- Behind: polygons written one behind another.
+pub mod Behind
