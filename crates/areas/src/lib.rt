@@ -1,5 +1,5 @@
-// The outer polygon and the four corner polygons of a box list, in a lent buffer: east and north per vertex, then zeros.
-// specs/Areas.antt says what each public call promises.
+// The outer polygon and the four corner polygons of a box list, in a lent buffer: east and north per vertex, then
+// zeros. specs/Areas.antt says what each public call promises.
 ghost use Prim.Native.Nat.{_≤_};
 ghost use lib.ListN.{length};
 ghost use Rattle.rounds.specs.Boxes.{BoxList};

@@ -1,5 +1,5 @@
-// What the corners of boxes tell each driver of a plug, and the reasons that show it, by how they are seen from the plug
-// (crate views). One loop, `views::look_over`, serves both drivers.
+// What the corners of boxes tell each driver of a plug, and the reasons that show it, by how they are seen from the
+// plug (crate views). One loop, `views::look_over`, serves both drivers.
 ghost use mathlib.Core.Path.{_≡_};
 ghost use mathlib.Core.List.{[], _∷_};
 ghost use Rattle.turns.specs.Keys.{Key, pointOf};
