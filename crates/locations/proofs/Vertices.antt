@@ -7,8 +7,9 @@ use native.Mathlib.Numerals.{add-one}
 use lib.IntN.{pos}
 use lib.Signed.{_≤ℤ_, _<ℤ_}
 use lib.ListN.{length, getD, length-map, List·getD-map}
-use Rattle.integers.proofs.Expr.{#_, _≼_, _⟹_}
+use Rattle.integers.proofs.Expr.{#_, _≐_, _≼_, _⟹_}
 use Rattle.integers.proofs.Cert.{cert, hyp, _∵_}
+use Rattle.integers.proofs.Ring.{ring}
 use Rattle.integers.proofs.Order.{≡→≤, ≤-antisym, not-≤}
 use Rattle.plane.specs.Points.{Point, signedArea}
 use Rattle.plane.specs.Members.{All, _∈_}
@@ -25,6 +26,10 @@ use Rattle.locations.specs.Search.{vertexAt}
 -- the side from a to b, taken the other way
 pub turned : (a b c : Point) → signedArea a b c ≤ℤ pos 0 → pos 0 ≤ℤ signedArea b a c
 turned a b c = cert 3 0 (λ a b c. signedAreaᴱ a b c ≼ # 0 ⟹ # 0 ≼ signedAreaᴱ b a c ∵ hyp 0) tt (pt a) (pt b) (pt c)
+
+-- the signed area from the second point on
+pub cyclic : (a b c : Point) → signedArea b c a ≡ signedArea a b c
+cyclic a b c = ring 3 0 (λ a b c. signedAreaᴱ b c a ≐ signedAreaᴱ a b c) tt (pt a) (pt b) (pt c)
 
 -- ---- of any listing
 

@@ -65,7 +65,7 @@ pub fn place_of(vertices: &[u32], plug: u32) -> Place
     if 0 < of_first {
         return Place::Off;
     }
-    let of_last = signed_area(last, first, plug);
+    let of_last = signed_area(first, plug, last);
     if 0 < of_last {
         return Place::Off;
     }

@@ -19,7 +19,7 @@ use Rattle.turns.proofs.Bounds.{returned}
 use Rattle.locations.specs.Places.{PlaceOf}
 use Rattle.locations.specs.declared.Place.the-variants.{OnLine}
 use Rattle.locations.specs.Search.{vertexAt}
-use Rattle.locations.proofs.Vertices.{Side, side-next, side-closing}
+use Rattle.locations.proofs.Vertices.{Side, side-next, side-closing, cyclic}
 use Rattle.locations.proofs.Segments.{segment-place}
 use Rattle.locations.proofs.Fans.{place-off, place-on, place-within}
 use borrow.Author.Needs.{needs}
@@ -69,9 +69,13 @@ start3 c = start2 (c .before .before)
 first-side : (c : tie.Else2) → signedArea (vertexAt (keys (start1 (c .before))) 0) (vertexAt (keys (start1 (c .before))) 1) (plug (start1 (c .before))) ≤ℤ pos 0
 first-side c = at-most (c .before .signed-area .ok) (c .before .signed-area .ensures) (c .if2 .left)
 
+of-last : (c : tie.After-signed-area2)
+    → c .signed-area2 .result ≡ signedArea (vertexAt (keys (start2 c)) (length (keys (start2 c)) - 1)) (vertexAt (keys (start2 c)) 0) (plug (start2 c))
+of-last c = c .signed-area2 .ensures ∙ cyclic (vertexAt (keys (start2 c)) (length (keys (start2 c)) - 1)) (vertexAt (keys (start2 c)) 0) (plug (start2 c))
+
 last-side : (c : tie.Else3)
     → signedArea (vertexAt (keys (start2 (c .before))) (length (keys (start2 (c .before))) - 1)) (vertexAt (keys (start2 (c .before))) 0) (plug (start2 (c .before))) ≤ℤ pos 0
-last-side c = at-most (c .before .signed-area2 .ok) (c .before .signed-area2 .ensures) (c .if3 .left)
+last-side c = at-most (c .before .signed-area2 .ok) (of-last (c .before)) (c .if3 .left)
 
 -- the fan's wedge and its side
 abbrev index : tie.After-fan-index → ℕ
@@ -129,13 +133,13 @@ signed-area-requires-2 : tie.Need-signed-area-requires-2
 signed-area-requires-2 c κs =
     let s = start1 (c .before) in
     let n = s .pre .some in
-    (key s _ (omega arith), key s 0 n, s .pre .plug)
+    (key s 0 n, s .pre .plug, key s _ (omega arith))
 
 returns-3 : tie.Need-returns-3
 returns-3 c =
     let d = c .before in
     let n = d .before .before .before .before .if1 .left in
-    place-off _ _ _ _ (side-closing (keys (start2 d)) (omega arith)) (more (d .signed-area2 .ok) (d .signed-area2 .ensures) (c .if3 .taken))
+    place-off _ _ _ _ (side-closing (keys (start2 d)) (omega arith)) (more (d .signed-area2 .ok) (of-last d) (c .if3 .taken))
 
 fan-index-requires : tie.Need-fan-index-requires
 fan-index-requires c κs =
@@ -183,7 +187,7 @@ returns-6 c =
     let f = found (c .before .before) in
     let a = f .before .before in
     let l = f .fan-index .ensures .in-range in
-    on (c .before .before) _ _ (side-closing (keys (start3 f)) (omega arith)) (zero (a .signed-area2 .ok) (a .signed-area2 .ensures) (c .if6 .taken))
+    on (c .before .before) _ _ (side-closing (keys (start3 f)) (omega arith)) (zero (a .signed-area2 .ok) (of-last a) (c .if6 .taken))
 
 returns-7 : tie.Need-returns-7
 returns-7 c =
@@ -199,7 +203,7 @@ returns-8 c =
     let b = f .before .before in
     place-within _ _ (index f) (f .fan-index .ensures)
     (less (a .signed-area .ok) (a .signed-area .ensures) (first-side (f .before .before .before)) (c .before .before .if5 .left))
-    (less (b .signed-area2 .ok) (b .signed-area2 .ensures) (last-side (f .before)) (c .before .if6 .left))
+    (less (b .signed-area2 .ok) (of-last b) (last-side (f .before)) (c .before .if6 .left))
     (less (d .before .signed-area3 .ok) (d .before .signed-area3 .ensures) (next-side d) (c .if7 .left))
 
 pub place-of-spec : {M : Type 1} → statement M
