@@ -12,7 +12,7 @@ use Rattle.integers.specs.Upto.{Upto}
 use Rattle.integers.proofs.Expr.{_⊕_, _⊖_, ⊝_, #_, _≐_, _≼_, _⟹_}
 use Rattle.integers.proofs.Lin.{lin}
 use Rattle.integers.proofs.Diff.{is-self, is-neg, is-add, is-eq, is-le, le-is}
-use Rattle.integers.proofs.Machine.{fits, plain, upto-plain, Got, got, got′, ask-sub, got-sub, ask-add, got-add}
+use Rattle.integers.proofs.Machine.{fits, plain, upto-plain, upto-sub, Got, got, got′, ask-sub, got-sub, ask-add, got-add}
 use Rattle.plane.specs.Points.{InSpan, point}
 use Rattle.turns.specs.Keys.{stride, eastPart, northPart, Key, KeyOf, pointOf}
 use Rattle.turns.proofs.Parts.{east-made, north-made}
@@ -52,13 +52,25 @@ pub key-in-span : {k : ℕ} → Key k → InSpan (pointOf k)
 unfolding pointOf
 key-in-span {k} h = record { easts = part-upto (eastPart k) (h .east-in); norths = part-upto (northPart k) (h .north-in) }
 
--- a coordinate z that a call returned as r, widened to 64 bits: what the cast asks, and what it leaves
-module _ {r z : ℤ} (e : r ≡ z) (h : Upto 16000 z) where
-  pub wide-fits : SFits w64 (toZ w32 (ofZ w32 r))
-  wide-fits = fits w64 tt (upto-plain w32 tt (subst (Upto 16000) (sym e) h))
+-- how far one key's point lies from another's
+module _ {a b : ℕ} (ha : Key a) (hb : Key b) where
+  pub easts-upto : Upto 32000 (pointOf b .east -ℤ pointOf a .east)
+  easts-upto = upto-sub (key-in-span hb .easts) (key-in-span ha .easts)
 
-  pub wide : Got w64 16000 (toZ w64 (ofZ w64 (toZ w32 (ofZ w32 r)))) z
-  wide = record { eq = toZ-ofZ w64 (toZ w32 (ofZ w32 r)) wide-fits ∙ plain w32 tt (subst (Upto 16000) (sym e) h) ∙ e; size = h }
+  pub norths-upto : Upto 32000 (pointOf b .north -ℤ pointOf a .north)
+  norths-upto = upto-sub (key-in-span hb .norths) (key-in-span ha .norths)
+
+-- a coordinate or a difference of two, z, that a call returned as r, widened to 64 bits: what the cast asks, and what it leaves
+module _ {r z : ℤ} (e : r ≡ z) (h : Upto 32000 z) where
+  pub wide-fits : SFits w64 (toZ w32 (ofZ w32 r))
+  wide-fits = fits w64 tt (upto-plain w32 tt (subst (Upto 32000) (sym e) h))
+
+  pub wide-is : toZ w64 (ofZ w64 (toZ w32 (ofZ w32 r))) ≡ z
+  wide-is = toZ-ofZ w64 (toZ w32 (ofZ w32 r)) wide-fits ∙ plain w32 tt (subst (Upto 32000) (sym e) h) ∙ e
+
+-- a part of a key, widened to 64 bits
+pub part-wide : {r n : ℕ} → r ≡ n → n ≤ 32000 → Got w64 32000 (toZ w64 r) (pos n)
+part-wide {r} {n} e h = subst (λ x. Got w64 32000 (toZ w64 x) (pos n)) (sym e) (got′ w64 tt (upto-nat {b = 32000} n h))
 
 -- ---- to a key
 

@@ -3,9 +3,9 @@
 use lib.IntN.{_-ℤ_}
 use mir.Syntax.{w32}
 use mir.Val.{toZ, ofZ}
-use Rattle.integers.proofs.Machine.{Got, upto-sub, ask-mul, got-mul, ask-add, got-add}
+use Rattle.integers.proofs.Machine.{Got, ask-mul, got-mul, ask-add, got-add}
 use Rattle.turns.specs.Keys.{pointOf}
-use Rattle.turns.proofs.Coordinates.{key-in-span}
+use Rattle.turns.proofs.Coordinates.{easts-upto, norths-upto}
 use Rattle.turns.proofs.Bounds.{small}
 use borrow.Author.Needs.{needs}
 use Rattle.turns.proofs.dot_product.Statement.{statement}
@@ -17,16 +17,16 @@ module _ (c : tie.After-north-between2) where
   start = c .before .before .before .before
 
   be : Got w32 32000 (toZ w32 (ofZ w32 (c .before .before .before .east-between .result))) (pointOf (start .args .b) .east -ℤ pointOf (start .args .a) .east)
-  be = small tt (c .before .before .before .east-between .ensures) (upto-sub (key-in-span (start .pre .1) .easts) (key-in-span (start .pre .0) .easts))
+  be = small tt (c .before .before .before .east-between .ensures) (easts-upto (start .pre .0) (start .pre .1))
 
   bn : Got w32 32000 (toZ w32 (ofZ w32 (c .before .before .north-between .result))) (pointOf (start .args .b) .north -ℤ pointOf (start .args .a) .north)
-  bn = small tt (c .before .before .north-between .ensures) (upto-sub (key-in-span (start .pre .1) .norths) (key-in-span (start .pre .0) .norths))
+  bn = small tt (c .before .before .north-between .ensures) (norths-upto (start .pre .0) (start .pre .1))
 
   ce : Got w32 32000 (toZ w32 (ofZ w32 (c .before .east-between2 .result))) (pointOf (start .args .c) .east -ℤ pointOf (start .args .a) .east)
-  ce = small tt (c .before .east-between2 .ensures) (upto-sub (key-in-span (start .pre .2) .easts) (key-in-span (start .pre .0) .easts))
+  ce = small tt (c .before .east-between2 .ensures) (easts-upto (start .pre .0) (start .pre .2))
 
   cn : Got w32 32000 (toZ w32 (ofZ w32 (c .north-between2 .result))) (pointOf (start .args .c) .north -ℤ pointOf (start .args .a) .north)
-  cn = small tt (c .north-between2 .ensures) (upto-sub (key-in-span (start .pre .2) .norths) (key-in-span (start .pre .0) .norths))
+  cn = small tt (c .north-between2 .ensures) (norths-upto (start .pre .0) (start .pre .2))
 
 east-between-requires : tie.Need-east-between-requires
 east-between-requires c κs = search needs

@@ -1,11 +1,14 @@
 -- `turns::signed_area` meets its contract. A difference of coordinates is at most 32,000 in size, a product of two at most 1,024,000,000: all fit.
 -- Assumes nothing.
+use mathlib.Core.Path.{_≡_}
+use lib.Dec.{lit≤}
 use lib.IntN.{ℤ, _-ℤ_}
 use mir.Syntax.{w32, w64}
-use mir.Val.{toZ, ofZ}
-use Rattle.integers.proofs.Machine.{Got, ask-sub, got-sub, ask-mul, got-mul}
+use mir.Val.{SFits, toZ, ofZ}
+use Rattle.integers.specs.Upto.{Upto}
+use Rattle.integers.proofs.Machine.{Got, upto-le, ask-sub, got-sub, ask-mul, got-mul}
 use Rattle.turns.specs.Keys.{pointOf}
-use Rattle.turns.proofs.Coordinates.{key-in-span, wide, wide-fits}
+use Rattle.turns.proofs.Coordinates.{key-in-span, wide-is, wide-fits}
 use borrow.Author.Needs.{needs}
 use Rattle.turns.proofs.signed_area.Statement.{statement}
 use Rattle.turns.proofs.signed_area.Tie as tie
@@ -13,6 +16,13 @@ use Rattle.turns.proofs.signed_area.Tie as tie
 -- a coordinate as the function holds it
 abbrev held : ℤ → ℤ
 held r = toZ w64 (ofZ w64 (toZ w32 (ofZ w32 r)))
+
+-- a coordinate is at most 16,000 in size
+wide : {r z : ℤ} → r ≡ z → Upto 16000 z → Got w64 16000 (held r) z
+wide e h = record { eq = wide-is e (upto-le (lit≤ tt) h); size = h }
+
+coordinate-fits : {r z : ℤ} → r ≡ z → Upto 16000 z → SFits w64 (toZ w32 (ofZ w32 r))
+coordinate-fits e h = wide-fits e (upto-le (lit≤ tt) h)
 
 -- the six coordinates, once all are read
 module _ (c : tie.After-north-of3) where
@@ -45,37 +55,37 @@ east-of-requires : tie.Need-east-of-requires
 east-of-requires c κs = search needs
 
 cast-ae : tie.Need-cast-ae
-cast-ae c = wide-fits (c .east-of .ensures) (key-in-span (c .before .pre .0) .easts)
+cast-ae c = coordinate-fits (c .east-of .ensures) (key-in-span (c .before .pre .0) .easts)
 
 north-of-requires : tie.Need-north-of-requires
 north-of-requires c κs = search needs
 
 cast-an : tie.Need-cast-an
-cast-an c = wide-fits (c .north-of .ensures) (key-in-span (c .before .before .pre .0) .norths)
+cast-an c = coordinate-fits (c .north-of .ensures) (key-in-span (c .before .before .pre .0) .norths)
 
 east-of-requires-2 : tie.Need-east-of-requires-2
 east-of-requires-2 c κs = search needs
 
 cast-be : tie.Need-cast-be
-cast-be c = wide-fits (c .east-of2 .ensures) (key-in-span (c .before .before .before .pre .1) .easts)
+cast-be c = coordinate-fits (c .east-of2 .ensures) (key-in-span (c .before .before .before .pre .1) .easts)
 
 north-of-requires-2 : tie.Need-north-of-requires-2
 north-of-requires-2 c κs = search needs
 
 cast-bn : tie.Need-cast-bn
-cast-bn c = wide-fits (c .north-of2 .ensures) (key-in-span (c .before .before .before .before .pre .1) .norths)
+cast-bn c = coordinate-fits (c .north-of2 .ensures) (key-in-span (c .before .before .before .before .pre .1) .norths)
 
 east-of-requires-3 : tie.Need-east-of-requires-3
 east-of-requires-3 c κs = search needs
 
 cast-ce : tie.Need-cast-ce
-cast-ce c = wide-fits (c .east-of3 .ensures) (key-in-span (c .before .before .before .before .before .pre .2) .easts)
+cast-ce c = coordinate-fits (c .east-of3 .ensures) (key-in-span (c .before .before .before .before .before .pre .2) .easts)
 
 north-of-requires-3 : tie.Need-north-of-requires-3
 north-of-requires-3 c κs = search needs
 
 cast-cn : tie.Need-cast-cn
-cast-cn c = wide-fits (c .north-of3 .ensures) (key-in-span (start c .pre .2) .norths)
+cast-cn c = coordinate-fits (c .north-of3 .ensures) (key-in-span (start c .pre .2) .norths)
 
 sub-result : tie.Need-sub-result
 sub-result c = ask-sub (be c) (ae c) tt
