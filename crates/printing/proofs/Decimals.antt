@@ -40,6 +40,9 @@ length-small n h = rw (decimal-small n h)
 pub length-large : (n : ℕ) → 10 ≤ n → length (decimal n) ≡ length (decimal (n / 10)) + 1
 length-large n h = ap length (decimal-large n h) ∙ length-append (decimal (n / 10)) (digit (n % 10) ∷ [])
 
+pub length-hundreds : (n : ℕ) → 100 ≤ n → length (decimal n) ≡ length (decimal (n / 10 / 10)) + 2
+length-hundreds n h = omega (arith, length-large n (omega arith), length-large (n / 10) (omega arith))
+
 -- a number below a power of ten has at most so many
 pub few-digits : (k n : ℕ) → n < 10 ^ suc k → length (decimal n) ≤ suc k
 few-digits zero n h = omega (arith, length-small n h)

@@ -47,6 +47,18 @@ pub then-digit : (n : ℕ) {xs ys : List ℕ} {k : ℕ} → 10 ≤ n → Wrote (
     → Wrote (decimal n) xs (k + 1) (set ys k (digit (n % 10)))
 then-digit n h f l = rw (decimal-large n h) (then-byte (digit (n % 10)) f (omega (arith, length-large n h)))
 
+-- one of two digits
+pub wrote-two : (n : ℕ) (xs : List ℕ) → 10 ≤ n → n < 100 → length (decimal n) ≤ length xs → Wrote (decimal n) xs 2 (set (set xs 0 (digit (n / 10))) 1 (digit (n % 10)))
+wrote-two n xs h s l = then-digit n h (wrote-digit (n / 10) xs (omega arith) (omega (arith, length-large n h))) l
+
+-- one of more, its two last digits behind the number of its hundreds
+pub then-two : (n : ℕ) {xs ys : List ℕ} {k : ℕ} → 100 ≤ n → Wrote (decimal (n / 10 / 10)) xs k ys → length (decimal n) ≤ length xs
+    → Wrote (decimal n) xs (k + 2) (set (set ys k (digit (n / 10 % 10))) (k + 1) (digit (n % 10)))
+then-two n {xs} {ys} {k} h f l =
+    let g : 10 ≤ n = omega arith in
+    subst (λ m. Wrote (decimal n) xs m (set (set ys k (digit (n / 10 % 10))) (k + 1) (digit (n % 10)))) (omega arith)
+    (then-digit n g (then-digit (n / 10) (omega arith) f (omega (arith, length-large n g))) l)
+
 -- the buffer keeps its length
 pub wrote-length : {a xs ys : List ℕ} {n : ℕ} → Wrote a xs n ys → length a ≤ length xs → length ys ≡ length xs
 wrote-length {a} {xs} f h = ap length (f .bytes) ∙ length-append a (drop (length a) xs) ∙ omega (arith, length-drop (length a) xs)

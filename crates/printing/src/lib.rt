@@ -1,7 +1,7 @@
 // The text of the printing program of document 01: from the bytes that it reads to the bytes that it prints.
 //
 // Each step writes at the front of what it is lent, returns how much it wrote, and leaves the remainder as it was.
-ghost use Prim.Native.Nat.{_+_, _≤_};
+ghost use Prim.Native.Nat.{_+_, _<_, _≤_};
 ghost use mathlib.Core.Path.{_≡_};
 ghost use mathlib.Core.List.{_++_};
 ghost use lib.ListN.{length};
@@ -37,6 +37,11 @@ const MOST_COORDINATES: usize = 13106;
 // The most vertices of the five polygons of a round.
 const MOST_VERTICES: usize = 8192;
 
+// The least number of three digits, and of five.
+const THREE_DIGITS: usize = 100;
+
+const FIVE_DIGITS: usize = 10000;
+
 // The ASCII code of the digit 0.
 const ZERO: u8 = 48;
 
@@ -53,8 +58,22 @@ fn write_bytes(bytes: &[u8], out: &mut [u8]) -> usize
     i
 }
 
-// Writes a number in base ten.
-fn write_decimal(number: usize, out: &mut [u8]) -> usize
+// Writes a number of one or two digits in base ten.
+fn write_two(number: usize, out: &mut [u8]) -> usize
+    requires { ⌜ (number < 100) × (length (decimal number) ≤ length (now out)) ⌝ }
+    ensures { λ r. ⌜ Wrote (decimal number) (now (out .entry)) r (now (out .exit)) ⌝ }
+{
+    if number < 10 {
+        out[0] = ZERO + (number as u8);
+        return 1;
+    }
+    out[0] = ZERO + ((number / 10) as u8);
+    out[1] = ZERO + ((number % 10) as u8);
+    2
+}
+
+// Writes a number in base ten, each digit by a call of itself.
+fn write_digits(number: usize, out: &mut [u8]) -> usize
     requires { ⌜ length (decimal number) ≤ length (now out) ⌝ }
     ensures { λ r. ⌜ Wrote (decimal number) (now (out .entry)) r (now (out .exit)) ⌝ }
 {
@@ -62,9 +81,27 @@ fn write_decimal(number: usize, out: &mut [u8]) -> usize
         out[0] = ZERO + (number as u8);
         return 1;
     }
-    let count = write_decimal(number / 10, out);
+    let count = write_digits(number / 10, out);
     out[count] = ZERO + ((number % 10) as u8);
     count + 1
+}
+
+// Writes a number in base ten; one of at most four digits, as those of plugs are, without a call for each digit.
+fn write_decimal(number: usize, out: &mut [u8]) -> usize
+    requires { ⌜ length (decimal number) ≤ length (now out) ⌝ }
+    ensures { λ r. ⌜ Wrote (decimal number) (now (out .entry)) r (now (out .exit)) ⌝ }
+{
+    if number < THREE_DIGITS {
+        return write_two(number, out);
+    }
+    if FIVE_DIGITS <= number {
+        return write_digits(number, out);
+    }
+    let tens = number / 10;
+    let count = write_two(tens / 10, out);
+    out[count] = ZERO + ((tens % 10) as u8);
+    out[count + 1] = ZERO + ((number % 10) as u8);
+    count + 2
 }
 
 // Writes a label, then a number in base ten.
