@@ -2,9 +2,9 @@
 ghost use mathlib.Core.Path.{_≡_};
 ghost use Prim.Native.Nat.{_/_, _<_};
 ghost use lib.ListN.{length};
-ghost use Rattle.turns.specs.Keys.{KeyOf};
+ghost use Rattle.turns.specs.Keys.{Key, KeyOf, pointOf};
 ghost use Rattle.rounds.specs.Boxes.{boxesOf, cornerOf, BoxList};
-ghost use Rattle.corners.specs.Corners.{nthCorner};
+ghost use Rattle.corners.specs.Corners.{nthCorner, Rightmost};
 use rounds::Box;
 use rounds::Corner;
 
@@ -41,4 +41,24 @@ pub fn corner_key(boxes: &[i32], k: usize, corner: Corner) -> u32
     let east = corner_east(b, corner);
     let north = corner_north(b, corner);
     turns::key_of(east, north)
+}
+
+// The corner of any box that is furthest right of the way from one key's point to another's: the lowest one along the
+// direction to the left of it.
+pub fn rightmost_corner(from: u32, to: u32) -> Corner
+    requires { ⌜ Key from × Key to ⌝ }
+    ensures { λ r. ⌜ Rightmost (pointOf from) (pointOf to) r ⌝ }
+{
+    let east = turns::north_between(to, from);
+    let north = turns::east_between(from, to);
+    if 0 <= east {
+        if 0 <= north {
+            return Corner::SouthWest;
+        }
+        return Corner::NorthWest;
+    }
+    if 0 <= north {
+        return Corner::SouthEast;
+    }
+    Corner::NorthEast
 }

@@ -1,7 +1,7 @@
 -- What a cone and a view tell each driver. Assumes nothing.
 use Prim.Native.Nat.{ℕ, _+_, _≤_, _<_}
 use mathlib.Core.Path.{_≡_, refl, sym, ap, subst}
-use mathlib.Core.List.{List, [], _∷_, map}
+use mathlib.Core.List.{List, [], _∷_, _++_, map}
 use native.Mathlib.Omega.{arith}
 use lib.Dec.{leb→le, le→leb, ltb→lt}
 use lib.IntN.{ℤ, pos, _+ℤ_, _*ℤ_, _-ℤ_}
@@ -14,7 +14,7 @@ use Rattle.integers.proofs.Order.{≡→≤, ≤-antisym, not-≤}
 use Rattle.plane.specs.Points.{Point, signedArea, dotProduct, outwardEast, outwardNorth}
 use Rattle.plane.specs.Members.{All, none, _&_}
 use Rattle.plane.specs.Vectors.{from, along, Supported}
-use Rattle.plane.proofs.Lists.{all-at, all-imp, all-both, all-map}
+use Rattle.plane.proofs.Lists.{all-at, all-imp, all-both, all-map, all-unmap, all-append, all-right}
 use Rattle.plane.proofs.Twins.{signedAreaᴱ, pt, fromᴱ, alongᴱ}
 use Rattle.plane.proofs.Sides.{dotProductᴱ, side-nonzero, side-behind}
 use Rattle.plane.proofs.PolygonFacts.{apart-length}
@@ -28,8 +28,9 @@ use Rattle.rounds.specs.declared.Corner.{Corner}
 use Rattle.rounds.specs.declared.Corner.the-variants.{SouthWest, SouthEast, NorthEast, NorthWest}
 use Rattle.rounds.proofs.Corners.{by-corner}
 use Rattle.cones.specs.Cones.{cornerPoint, entryOf, Named, AllOnRay, AllOnLine, AllInWedge, AllInHalf, IsAround}
-use Rattle.views.specs.Views.{IsPlug}
-use Rattle.reasons.specs.Answers.{squareTo, SupportAt, SupportSays, SupportBy, BetweenCorners, InTriangle, BalanceAmong, BalanceByCone}
+use Rattle.views.specs.Views.{IsPlug, cornersBy}
+use Rattle.views.specs.declared.CornerSet.the-variants.{Four}
+use Rattle.reasons.specs.Answers.{squareTo, SupportAt, SupportSays, SupportBy, BetweenCorners, InTriangle, BalanceAt, BalanceSays, BalanceAmong, BalanceByCone}
 use Rattle.cones.specs.declared.CornerKey.{CornerKey}
 use Rattle.cones.specs.declared.Cone.the-variants.{Nothing, Ray, Line, Wedge, Half, Around}
 use Rattle.reasons.specs.declared.Support.{Support}
@@ -316,3 +317,23 @@ pub support-last : (bs : List Box) (p : Point) (r : Support) → SupportAt bs p 
     → SupportAt bs p NorthEast Support′.Surrounded → SupportAt bs p NorthWest r → SupportSays bs p r
 support-last bs p Support′.Surrounded sw se ne nw = by-corner (λ c. Supported (map (from 1 p) (cornersOf c bs)) → ⊥) sw se ne nw
 support-last bs p (Support′.Reason d) sw se ne nw = nw
+
+-- ---- the corners of every box, box by box
+
+corner-of-every : {P : Point → Type 0} (c : Corner) (bs : List Box) → All P (cornersBy Four bs) → All P (cornersOf c bs)
+corner-of-every c [] none = none
+corner-of-every SouthWest (b ∷ bs) (sw & se & ne & nw & more) = sw & corner-of-every SouthWest bs more
+corner-of-every SouthEast (b ∷ bs) (sw & se & ne & nw & more) = se & corner-of-every SouthEast bs more
+corner-of-every NorthEast (b ∷ bs) (sw & se & ne & nw & more) = ne & corner-of-every NorthEast bs more
+corner-of-every NorthWest (b ∷ bs) (sw & se & ne & nw & more) = nw & corner-of-every NorthWest bs more
+
+-- what they tell the second driver, behind other points, all corners tell
+pub balance-all : (bs : List Box) (qs : List Point) (p : Point) (r : Balance) → BalanceAt bs (qs ++ cornersBy Four bs) p r → BalanceSays bs p r
+balance-all bs qs p (Balance′.Reason a b c) h = h
+balance-all bs qs p Balance′.Separated h = record { a = h .a; b = h .b; behind = all-map (from 1 p) (all-append (all-append (all-append (corner SouthWest) (corner SouthEast)) (corner NorthEast)) (corner NorthWest)) }
+  where
+    four : All (λ q. along (h .a) (h .b) (from 1 p q) <ℤ pos 0) (cornersBy Four bs)
+    four = all-right qs (cornersBy Four bs) (all-unmap (from 1 p) (qs ++ cornersBy Four bs) (h .behind))
+
+    corner : (c : Corner) → All (λ q. along (h .a) (h .b) (from 1 p q) <ℤ pos 0) (cornersOf c bs)
+    corner c = corner-of-every c bs four

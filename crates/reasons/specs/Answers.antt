@@ -1,5 +1,6 @@
 -- What the corners of boxes tell each driver of a plug, and what a cone and a view tell. Definitions only.
 use mathlib.Core.Path.{_≡_}
+use mathlib.Core.Bool.{Bool, true}
 use mathlib.Core.List.{List, [], _∷_, map}
 use lib.IntN.{pos}
 use lib.Signed.{_≤ℤ_, _<ℤ_}
@@ -37,6 +38,10 @@ SupportAt bs p corner (Support′.Reason d) = DirectionHolds bs p d
 abbrev pub SupportSays : List Box → Point → Support → Type 0
 SupportSays bs p Support′.Surrounded = (corner : Corner) → Supported (map (from 1 p) (cornersOf corner bs)) → ⊥
 SupportSays bs p (Support′.Reason d) = DirectionHolds bs p d
+
+-- the answer yes shows that the plug is strictly inside the hull of that one corner of every box
+pub record TriangleSays (bs : List Box) (p : Point) (corner : Corner) (r : Bool) : Type 0 where
+  pub surrounded : r ≡ true → SupportAt bs p corner Support′.Surrounded
 
 -- what the cone of that one corner of every box tells, whatever boxes they are
 pub record SupportBy (p : Point) (cone : Cone) (corner : Corner) (r : Support) : Type 0 where

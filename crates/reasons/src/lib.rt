@@ -3,16 +3,18 @@
 ghost use mathlib.Core.Path.{_≡_};
 ghost use mathlib.Core.List.{[], _∷_};
 ghost use Rattle.turns.specs.Keys.{Key, pointOf};
-ghost use Rattle.rounds.specs.Boxes.{BoxList, boxesOf};
-ghost use Rattle.cones.specs.Cones.{entryOf, Known};
+ghost use Rattle.rounds.specs.Boxes.{BoxList, boxesOf, cornersOf};
+ghost use Rattle.cones.specs.Cones.{entryOf, Named, ConeSays, Known};
 ghost use Rattle.views.specs.Views.{CornerViewSays};
-ghost use Rattle.reasons.specs.Answers.{squareTo, SupportAt, SupportSays, SupportBy, BetweenCorners, InTriangle};
+ghost use Rattle.reasons.specs.Answers.{squareTo, SupportAt, TriangleSays, SupportSays, SupportBy};
+ghost use Rattle.reasons.specs.Answers.{BetweenCorners, InTriangle};
 ghost use Rattle.reasons.specs.Answers.{BalanceSays, BalanceAmong, BalanceByCone, BalanceBy};
 use cones::Cone;
 use cones::CornerKey;
 use rounds::Corner;
 use rounds::Direction;
 use rounds::Entry;
+use views::CornerSet;
 use views::Met;
 use views::View;
 
@@ -62,11 +64,38 @@ fn support_by(cone: Cone, corner: Corner, plug: u32) -> Support
     }
 }
 
-// What that one corner of every box tells the first driver.
-fn support_at(boxes: &[i32], corner: Corner, plug: u32) -> Support
+// Whether the plug is strictly inside the triangle of that one corner of three boxes, which are known by their numbers.
+fn is_in_triangle(
+    boxes: &[i32],
+    corner: Corner,
+    a: CornerKey,
+    b: CornerKey,
+    c: CornerKey,
+    plug: u32,
+) -> bool
     requires { ⌜ BoxList (now boxes) × Key plug ⌝ }
+    requires { ⌜ Named (boxesOf (now boxes)) a × Named (boxesOf (now boxes)) b × Named (boxesOf (now boxes)) c ⌝ }
+    ensures { λ r. ⌜ TriangleSays (boxesOf (now (boxes .entry))) (pointOf plug) corner r ⌝ }
+{
+    let u = corners::corner_key(boxes, a.number as usize - 1, corner);
+    let v = corners::corner_key(boxes, b.number as usize - 1, corner);
+    let w = corners::corner_key(boxes, c.number as usize - 1, corner);
+    turns::turns_left(plug, u, v) & (turns::turns_left(plug, v, w) & turns::turns_left(plug, w, u))
+}
+
+// What that one corner of every box tells the first driver. Where the south-west corners of three boxes are round the
+// plug, the same boxes are tried first.
+fn support_at(boxes: &[i32], corner: Corner, plug: u32, southwest: Cone) -> Support
+    requires { ⌜ BoxList (now boxes) × Key plug ⌝ }
+    requires { ⌜ ConeSays (boxesOf (now boxes)) (cornersOf Corner.SouthWest (boxesOf (now boxes))) (pointOf plug)
+        southwest ⌝ }
     ensures { λ r. ⌜ SupportAt (boxesOf (now (boxes .entry))) (pointOf plug) corner r ⌝ }
 {
+    if let Cone::Around(a, b, c) = southwest {
+        if is_in_triangle(boxes, corner, a, b, c, plug) {
+            return Support::Surrounded;
+        }
+    }
     let view = views::view_of(boxes, corner, plug);
     let cone = view.cone;
     support_by(cone, corner, plug)
@@ -83,15 +112,15 @@ pub fn support_of(boxes: &[i32], plug: u32, view: View) -> Support
     if let Support::Reason(direction) = sw {
         return Support::Reason(direction);
     }
-    let se = support_at(boxes, Corner::SouthEast, plug);
+    let se = support_at(boxes, Corner::SouthEast, plug, cone);
     if let Support::Reason(direction) = se {
         return Support::Reason(direction);
     }
-    let ne = support_at(boxes, Corner::NorthEast, plug);
+    let ne = support_at(boxes, Corner::NorthEast, plug, cone);
     if let Support::Reason(direction) = ne {
         return Support::Reason(direction);
     }
-    support_at(boxes, Corner::NorthWest, plug)
+    support_at(boxes, Corner::NorthWest, plug, cone)
 }
 
 // The entry that names the corner, with a weight.
@@ -165,16 +194,6 @@ pub fn balance_of(boxes: &[i32], plug: u32, view: View) -> Balance
     if let Balance::Reason(a, b, c) = sw {
         return Balance::Reason(a, b, c);
     }
-    let south = views::look_over(boxes, Corner::SouthEast, plug, view);
-    let se = balance_by(south, plug);
-    if let Balance::Reason(a, b, c) = se {
-        return Balance::Reason(a, b, c);
-    }
-    let but_north_west = views::look_over(boxes, Corner::NorthEast, plug, south);
-    let ne = balance_by(but_north_west, plug);
-    if let Balance::Reason(a, b, c) = ne {
-        return Balance::Reason(a, b, c);
-    }
-    let all = views::look_over(boxes, Corner::NorthWest, plug, but_north_west);
+    let all = views::look_over(boxes, CornerSet::Four, plug, view);
     balance_by(all, plug)
 }

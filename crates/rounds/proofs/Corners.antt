@@ -82,7 +82,7 @@ reason-supported {a = a} {b = b} r = record { a = a; b = b; nonzero = r .nonzero
 
 -- ---- the pick of one corner name
 
-corner-within : (c : Corner) (x : Box) → Ordered x → InBox 1 x (cornerOf c x)
+pub corner-within : (c : Corner) (x : Box) → Ordered x → InBox 1 x (cornerOf c x)
 corner-within c x o = go c
   where
     -- s ≤ t, with one side written 1 · s

@@ -2,18 +2,23 @@
 use mathlib.Core.Path.{_≡_}
 use mathlib.Core.List.{List, [], _∷_, _++_, map}
 use Prim.Native.Nat.{ℕ, _≤_}
-use lib.ListN.{length, take}
+use lib.IntN.{pos}
+use lib.ListN.{length, getD, take}
 use Rattle.plane.specs.Points.{Point}
 use Rattle.plane.specs.Members.{All}
 use Rattle.plane.specs.Vectors.{from, Supported}
-use Rattle.rounds.specs.Boxes.{cornersOf}
+use Rattle.rounds.specs.Boxes.{box, cornerOf, cornersOf}
 use Rattle.rounds.specs.declared.Box.{Box}
 use Rattle.rounds.specs.declared.Corner.{Corner}
+use Rattle.rounds.specs.declared.Corner.the-variants.{SouthWest, SouthEast, NorthEast, NorthWest}
 use Rattle.cones.specs.Cones.{cornerPoint, Named, ConeSays}
 use Rattle.cones.specs.declared.CornerKey.{CornerKey}
 use Rattle.cones.specs.declared.Cone.{Cone}
+use Rattle.cones.specs.declared.Cone.the-variants.{Line}
 use Rattle.views.specs.declared.Met.{Met}
 use Rattle.views.specs.declared.Met.the-variants.{Nowhere, At}
+use Rattle.views.specs.declared.CornerSet.{CornerSet}
+use Rattle.views.specs.declared.CornerSet.the-variants.{One, Four}
 use Rattle.views.specs.declared.View.{View}
 
 -- no point is the plug
@@ -47,20 +52,45 @@ abbrev pub CornerViewSays : List Box → Corner → Point → View → Type 0
 CornerViewSays bs corner p view = ViewSays bs (cornersOf corner bs) p view
 
 -- some points have the view
-pub record Viewed (bs : List Box) (p : Point) (cone : Cone) (met : Met) : Type 0 where
+pub record Viewed (bs : List Box) (p : Point) (view : View) : Type 0 where
   pub points : List Point
-  pub says : Says bs points p cone met
+  pub says : ViewSays bs points p view
 
 -- the view is that of the start's points and of more, whatever points the start's are
-pub record LooksOn (bs : List Box) (p : Point) (cone₀ : Cone) (met₀ : Met) (more : List Point) (cone : Cone) (met : Met) : Type 0 where
-  pub says : (qs : List Point) → Says bs qs p cone₀ met₀ → Says bs (qs ++ more) p cone met
+pub record LooksAt (bs : List Box) (p : Point) (start : View) (more : List Point) (view : View) : Type 0 where
+  pub says : (qs : List Point) → ViewSays bs qs p start → ViewSays bs (qs ++ more) p view
 
--- the view is that of the start's points and of that one corner of every box
-abbrev pub LooksOver : List Box → Point → View → Corner → View → Type 0
-LooksOver bs p start corner view = LooksOn bs p (start .cone) (start .met) (cornersOf corner bs) (view .cone) (view .met)
+-- the box at place k, from 0
+abbrev pub nthBox : List Box → ℕ → Box
+nthBox bs k = getD bs k (box (pos 0) (pos 0) (pos 0) (pos 0))
 
--- from the first k of the points cs to the first r, the view stays, behind whatever points
-pub record Passes (p : Point) (cone : Cone) (cs : List Point) (k r : ℕ) : Type 0 where
+-- the names of the corners that are looked at, and one of them by its place, from 0
+abbrev pub namesIn : CornerSet → List Corner
+namesIn (One corner) = corner ∷ []
+namesIn Four = SouthWest ∷ SouthEast ∷ NorthEast ∷ NorthWest ∷ []
+
+abbrev pub nthName : CornerSet → ℕ → Corner
+nthName set j = getD (namesIn set) j SouthWest
+
+-- those corners of a box
+abbrev pub cornersIn : CornerSet → Box → List Point
+cornersIn set b = map (λ c. cornerOf c b) (namesIn set)
+
+-- those of every box, box by box
+abbrev pub cornersBy : CornerSet → List Box → List Point
+cornersBy set [] = []
+cornersBy set (b ∷ bs) = cornersIn set b ++ cornersBy set bs
+
+-- the view is that of the start's points and of those corners of every box
+abbrev pub LooksOver : List Box → Point → View → CornerSet → View → Type 0
+LooksOver bs p start set view = LooksAt bs p start (cornersBy set bs) view
+
+-- from the first k boxes to the first r, the view stays, behind whatever points
+pub record Passes (p : Point) (cone : Cone) (set : CornerSet) (bs : List Box) (k r : ℕ) : Type 0 where
   pub from : k ≤ r
-  pub upto : r ≤ length cs
-  pub says : (bs : List Box) (qs : List Point) (met : Met) → Says bs (qs ++ take k cs) p cone met → Says bs (qs ++ take r cs) p cone met
+  pub upto : r ≤ length bs
+  pub says : (all : List Box) (qs : List Point) (met : Met) → Says all (qs ++ cornersBy set (take k bs)) p cone met → Says all (qs ++ cornersBy set (take r bs)) p cone met
+
+-- the same where the cone is the line through a and whatever other
+pub record PassesLine (p : Point) (a : CornerKey) (set : CornerSet) (bs : List Box) (k r : ℕ) : Type 0 where
+  pub passes : (b : CornerKey) → Passes p (Line a b) set bs k r

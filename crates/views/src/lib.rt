@@ -1,15 +1,21 @@
-// The corners of boxes as seen from a plug: one pass over a corner of every box widens the cone of the points so far
-// (crate cones), from whatever view it starts. No polygon is made, and there is no scratch.
+// The corners of boxes as seen from a plug: one pass over the boxes widens the cone of the points so far (crate cones)
+// by a corner of each or by all four, from whatever view it starts. No polygon is made, and there is no scratch.
 ghost use mathlib.Core.Path.{_≡_};
 ghost use Prim.Native.Nat.{_/_, _≤_, _<_};
 ghost use lib.ListN.{length};
 ghost use Rattle.turns.specs.Keys.{Key, pointOf};
-ghost use Rattle.rounds.specs.Boxes.{BoxList, boxesOf, cornersOf};
+ghost use Rattle.rounds.specs.Boxes.{BoxList, boxesOf};
 ghost use Rattle.cones.specs.Cones.{CornerOf, Known};
-ghost use Rattle.views.specs.Views.{MetOn, CornerViewSays, Viewed, LooksOver, Passes};
+ghost use Rattle.views.specs.Views.{MetOn, CornerViewSays, Viewed, namesIn, nthName, LooksOver, Passes, PassesLine};
 use cones::Cone;
 use cones::CornerKey;
 use rounds::Corner;
+
+// The corners of a box that are looked at: one of them, or all four.
+pub enum CornerSet {
+    One(Corner),
+    Four,
+}
 
 // Whether a point so far is the plug itself.
 pub enum Met {
@@ -48,8 +54,46 @@ fn meet(met: Met, v: CornerKey, plug: u32) -> Met
     met
 }
 
+// How many corners of a box are looked at.
+fn corner_count(set: CornerSet) -> usize
+    ensures { λ r. ⌜ r ≡ length (namesIn set) ⌝ }
+{
+    match set {
+        CornerSet::One(_) => 1,
+        CornerSet::Four => 4,
+    }
+}
+
+// One of the four corners by its place, from 0.
+fn nth_of_four(j: usize) -> Corner
+    requires { ⌜ j < 4 ⌝ }
+    ensures { λ r. ⌜ r ≡ nthName CornerSet.Four j ⌝ }
+{
+    if j == 0 {
+        return Corner::SouthWest;
+    }
+    if j == 1 {
+        return Corner::SouthEast;
+    }
+    if j == 2 {
+        return Corner::NorthEast;
+    }
+    Corner::NorthWest
+}
+
+// One of the corners that are looked at by its place, from 0.
+fn nth_name(set: CornerSet, j: usize) -> Corner
+    requires { ⌜ j < length (namesIn set) ⌝ }
+    ensures { λ r. ⌜ r ≡ nthName set j ⌝ }
+{
+    match set {
+        CornerSet::One(corner) => corner,
+        CornerSet::Four => nth_of_four(j),
+    }
+}
+
 // The first place from k on where that one corner is not strictly inside the wedge, or the number of boxes.
-fn pass_wedge(
+fn pass_corners(
     boxes: &[i32],
     corner: Corner,
     k: usize,
@@ -58,7 +102,8 @@ fn pass_wedge(
     plug: u32,
 ) -> usize
     requires { ⌜ BoxList (now boxes) × (k ≤ length (now boxes) / 4) × Key (a .key) × Key (b .key) × Key plug ⌝ }
-    ensures { λ r. ⌜ Passes (pointOf plug) (Cone.Wedge a b) (cornersOf corner (boxesOf (now (boxes .entry)))) k r ⌝ }
+    ensures { λ r. ⌜ Passes (pointOf plug) (Cone.Wedge a b) (CornerSet.One corner)
+        (boxesOf (now (boxes .entry))) k r ⌝ }
 {
     let count = boxes.len() / 4;
     let mut i = k;
@@ -75,35 +120,96 @@ fn pass_wedge(
     i
 }
 
-// A place from k on, such that that one corner of the boxes up to there leaves the cone as it is.
-fn pass_cone(boxes: &[i32], corner: Corner, k: usize, cone: Cone, plug: u32) -> usize
-    requires { ⌜ BoxList (now boxes) × (k ≤ length (now boxes) / 4) × Key plug × Known (pointOf plug) cone ⌝ }
-    ensures { λ r. ⌜ Passes (pointOf plug) cone (cornersOf corner (boxesOf (now (boxes .entry)))) k r ⌝ }
+// The first place from k on where a corner is not strictly inside the wedge, or the number of boxes. Of each box, the
+// corner furthest right of the one ray and that furthest left of the other tell.
+fn pass_boxes(boxes: &[i32], k: usize, a: CornerKey, b: CornerKey, plug: u32) -> usize
+    requires { ⌜ BoxList (now boxes) × (k ≤ length (now boxes) / 4) × Key (a .key) × Key (b .key) × Key plug ⌝ }
+    ensures { λ r. ⌜ Passes (pointOf plug) (Cone.Wedge a b) CornerSet.Four (boxesOf (now (boxes .entry))) k r ⌝ }
 {
+    let count = boxes.len() / 4;
+    let at_a = corners::rightmost_corner(plug, a.key);
+    let at_b = corners::rightmost_corner(b.key, plug);
+    let mut i = k;
+    while i < count {
+        let v = corners::corner_key(boxes, i, at_a);
+        if !turns::turns_left(plug, a.key, v) {
+            return i;
+        }
+        let w = corners::corner_key(boxes, i, at_b);
+        if !turns::turns_left(b.key, plug, w) {
+            return i;
+        }
+        i += 1;
+    }
+    i
+}
+
+// The first place from k on where that one corner is off the line or the plug itself, or the number of boxes. Where all
+// four are looked at, none is passed.
+fn pass_line(boxes: &[i32], set: CornerSet, k: usize, a: CornerKey, plug: u32) -> usize
+    requires { ⌜ BoxList (now boxes) × (k ≤ length (now boxes) / 4) × Key (a .key) × Key plug ⌝ }
+    ensures { λ r. ⌜ PassesLine (pointOf plug) a set (boxesOf (now (boxes .entry))) k r ⌝ }
+{
+    let CornerSet::One(corner) = set else {
+        return k;
+    };
+    let count = boxes.len() / 4;
+    let mut i = k;
+    while i < count {
+        let v = corners::corner_key(boxes, i, corner);
+        if turns::signed_area(plug, a.key, v) != 0 {
+            return i;
+        }
+        if v == plug {
+            return i;
+        }
+        i += 1;
+    }
+    i
+}
+
+// A place from k on, such that those corners of the boxes up to there leave the cone as it is.
+fn pass_cone(boxes: &[i32], set: CornerSet, k: usize, cone: Cone, plug: u32) -> usize
+    requires { ⌜ BoxList (now boxes) × (k ≤ length (now boxes) / 4) × Key plug × Known (pointOf plug) cone ⌝ }
+    ensures { λ r. ⌜ Passes (pointOf plug) cone set (boxesOf (now (boxes .entry))) k r ⌝ }
+{
+    if let Cone::Line(a, _) = cone {
+        return pass_line(boxes, set, k, a, plug);
+    }
     let Cone::Wedge(a, b) = cone else {
         return k;
     };
-    pass_wedge(boxes, corner, k, a, b, plug)
+    match set {
+        CornerSet::One(corner) => pass_corners(boxes, corner, k, a, b, plug),
+        CornerSet::Four => pass_boxes(boxes, k, a, b, plug),
+    }
 }
 
-// The start's points and that one corner of every box, as seen from the plug; no further than it is strictly inside.
-pub fn look_over(boxes: &[i32], corner: Corner, plug: u32, start: View) -> View
+// The start's points and those corners of every box, as seen from the plug; no further than it is strictly inside.
+pub fn look_over(boxes: &[i32], set: CornerSet, plug: u32, start: View) -> View
     requires { ⌜ BoxList (now boxes) × Key plug ⌝ }
-    requires { ⌜ Viewed (boxesOf (now boxes)) (pointOf plug) (start .cone) (start .met) ⌝ }
-    ensures { λ r. ⌜ LooksOver (boxesOf (now (boxes .entry))) (pointOf plug) start corner r ⌝ }
+    requires { ⌜ Viewed (boxesOf (now boxes)) (pointOf plug) start ⌝ }
+    ensures { λ r. ⌜ LooksOver (boxesOf (now (boxes .entry))) (pointOf plug) start set r ⌝ }
 {
     let count = boxes.len() / 4;
+    let each = corner_count(set);
     let mut cone = start.cone;
     let mut met = start.met;
-    let mut k = pass_cone(boxes, corner, 0, cone, plug);
+    let mut k = pass_cone(boxes, set, 0, cone, plug);
+    let mut j: usize = 0;
     while k < count {
-        if let Cone::Around(_, _, _) = cone {
-            return View { cone, met };
-        }
+        let corner = nth_name(set, j);
         let v = nth_corner(boxes, k, corner);
         cone = cones::widen(cone, v, plug);
         met = meet(met, v, plug);
-        k = pass_cone(boxes, corner, k + 1, cone, plug);
+        j += 1;
+        if j == each {
+            if let Cone::Around(_, _, _) = cone {
+                return View { cone, met };
+            }
+            j = 0;
+            k = pass_cone(boxes, set, k + 1, cone, plug);
+        }
     }
     View { cone, met }
 }
@@ -117,5 +223,5 @@ pub fn view_of(boxes: &[i32], corner: Corner, plug: u32) -> View
         cone: Cone::Nothing,
         met: Met::Nowhere,
     };
-    look_over(boxes, corner, plug, nothing)
+    look_over(boxes, CornerSet::One(corner), plug, nothing)
 }

@@ -1,36 +1,30 @@
--- `views::pass_wedge` meets its contract. The invariant: the corners from place k to place i leave the wedge as it is. Assumes nothing.
-use mathlib.Core.Path.{_≡_, refl, sym, _∙_}
-use mathlib.Core.Bool.{Bool, true, false, not}
+-- `views::pass_corners` meets its contract. The invariant: the corners from place k to place i leave the wedge as it is. Assumes nothing.
+use mathlib.Core.Path.{sym, _∙_, subst}
 use Prim.Native.Nat.{_/_, _-_, _<_}
 use native.Mathlib.Omega.{arith}
-use lib.IntN.{pos}
 use lib.ListN.{length}
 use Rattle.integers.proofs.Machine.{ltZ-true}
-use Rattle.plane.specs.Points.{point}
+use Rattle.plane.specs.Members.{none, _&_}
 use Rattle.turns.specs.Keys.{pointOf}
-use Rattle.rounds.specs.Boxes.{boxesOf, cornersOf}
-use Rattle.corners.proofs.Places.{corners-length}
+use Rattle.rounds.specs.Boxes.{boxesOf}
+use Rattle.rounds.proofs.Rows.{boxes-length}
 use Rattle.views.specs.Views.{Passes}
 use Rattle.cones.specs.declared.Cone.the-variants.{Wedge}
 use Rattle.cones.proofs.Turns.{back-pos}
-use Rattle.views.proofs.Viewing.{passes-none, passes-next}
+use Rattle.views.specs.declared.CornerSet.the-variants.{One}
+use Rattle.views.proofs.Viewing.{passed, corner-of-nth, InsideWedge, passes-none, passes-inside}
 use borrow.Author.Needs.{needs}
-use Rattle.views.proofs.pass_wedge.Statement.{statement}
-use Rattle.views.proofs.pass_wedge.Tie as tie
+use Rattle.views.proofs.pass_corners.Statement.{statement}
+use Rattle.views.proofs.pass_corners.Tie as tie
 
 abbrev Inv-loop : tie.InvT-loop
-Inv-loop boxes corner k a b plug count i₀ i = Passes (pointOf plug) (Wedge a b) (cornersOf corner (boxesOf boxes)) k i
+Inv-loop boxes corner k a b plug count i₀ i = Passes (pointOf plug) (Wedge a b) (One corner) (boxesOf boxes) k i
 
 abbrev μ-loop : tie.MeasureT-loop
 μ-loop boxes corner k a b plug count i₀ i = length boxes / 4 - i
 
--- a test that was not passed by
-passed : (t : Bool) → not t ≡ false → t ≡ true
-passed true e = refl
-passed false e = sym e
-
 loop-holds : tie.Need-loop-holds Inv-loop μ-loop
-loop-holds c = passes-none _ _ (c .args .k) (omega (arith, c .pre .1, corners-length (c .args .corner) (c .args .boxes .now)))
+loop-holds c = passes-none _ _ _ (c .args .k) (omega (arith, c .pre .1, boxes-length (c .args .boxes .now)))
 
 corner-key-requires : tie.Need-corner-key-requires Inv-loop μ-loop
 corner-key-requires c κs = (c .before .before .pre .0, omega arith)
@@ -60,17 +54,24 @@ loop-again c =
     let d = l .before in
     let i = d .before .before .loop .i in
     let s = d .before .before .before in
-    let n : i < length (cornersOf (s .args .corner) (boxesOf (s .args .boxes .now))) = omega (arith, corners-length (s .args .corner) (s .args .boxes .now)) in
-    passes-next _ (point (pos 0) (pos 0)) (pointOf (d .corner-key .result)) _ _ _ i n (d .corner-key .ensures .is)
-    (back-pos (pointOf (s .args .plug)) (pointOf (d .corner-key .result)) (pointOf (s .args .a .key)) (ltZ-true (sym (l .turns-right .ensures) ∙ passed _ (r .before .if1 .left))))
-    (back-pos (pointOf (s .args .plug)) (pointOf (s .args .b .key)) (pointOf (d .corner-key .result)) (ltZ-true (sym (r .turns-right2 .ensures) ∙ passed _ (c .if2 .left))))
+    let bs = boxesOf (s .args .boxes .now) in
+    let n : i < length bs = omega (arith, boxes-length (s .args .boxes .now)) in
+    let e = d .corner-key .ensures .is ∙ corner-of-nth (s .args .corner) bs i n in
+    let A = pointOf (s .args .a .key) in
+    let B = pointOf (s .args .b .key) in
+    let p = pointOf (s .args .plug) in
+    let v = pointOf (d .corner-key .result) in
+    passes-inside (One (s .args .corner)) bs _ _ _ i n
+    (subst (InsideWedge p (s .args .a) (s .args .b)) e
+    (back-pos p v A (ltZ-true (sym (l .turns-right .ensures) ∙ passed _ (r .before .if1 .left))), back-pos p B v (ltZ-true (sym (r .turns-right2 .ensures) ∙ passed _ (c .if2 .left))))
+    & none)
     (d .before .before .loop .inv)
 
 returns-3 : tie.Need-returns-3 Inv-loop μ-loop
 returns-3 c = c .before .loop .inv
 
-pub pass-wedge-spec : {M : Type 1} → statement M
-pass-wedge-spec =
+pub pass-corners-spec : {M : Type 1} → statement M
+pass-corners-spec =
     tie.close
     (tie.spec
     Inv-loop
