@@ -1,6 +1,5 @@
 // Whether a coordinate and a box's edges are in the span, and a box's edges in order.
 ghost use mathlib.Core.Path.{_≡_};
-ghost use mathlib.Core.Bool.{_||_};
 ghost use Rattle.rounds.specs.Refusals.{beyond, edgeBeyond, edgesReversed};
 use plane::SPAN;
 use rounds::Box;
@@ -30,11 +29,4 @@ pub fn is_reversed(b: Box) -> bool
     ensures { λ r. ⌜ r ≡ edgesReversed b ⌝ }
 {
     (b.east < b.west) | (b.north < b.south)
-}
-
-// Whether a box is refused, by its edges.
-pub fn is_refused(b: Box) -> bool
-    ensures { λ r. ⌜ r ≡ edgeBeyond b || edgesReversed b ⌝ }
-{
-    has_edge_beyond(b) | is_reversed(b)
 }

@@ -3,7 +3,6 @@ ghost use mathlib.Core.Path.{_≡_};
 ghost use Rattle.plane.specs.Points.{point};
 ghost use Rattle.rounds.specs.Refusals.{faultOf, _orElse_, boxFault};
 ghost use Rattle.rounds.specs.Refusals.{boxListFault, plugFault, plugListFault, bufferFault, areaFault, verdictFault};
-ghost use Rattle.checks.specs.Front.{FrontAccepted};
 use rounds::Box;
 use rounds::Cause;
 use rounds::Checked;
@@ -31,23 +30,6 @@ fn check_box(b: Box, number: usize) -> Checked
     })
 }
 
-// How many boxes at the front are accepted, two by two: up to two of which one is refused, or to the last one or none.
-fn count_accepted(boxes: &[i32]) -> usize
-    ensures { λ r. ⌜ FrontAccepted (now (boxes .entry)) r ⌝ }
-{
-    let count = boxes.len() / 4;
-    let mut k: usize = 0;
-    while k + 1 < count {
-        let first = bounds::is_refused(boxes::box_at(boxes, k));
-        let second = bounds::is_refused(boxes::box_at(boxes, k + 1));
-        if first | second {
-            return k;
-        }
-        k += 2;
-    }
-    k
-}
-
 // Checks a box list: 1, 2, 3, then box by box.
 pub fn check_boxes(boxes: &[i32]) -> Checked
     ensures { λ r. ⌜ faultOf r ≡ boxListFault (now (boxes .entry)) ⌝ }
@@ -72,7 +54,7 @@ pub fn check_boxes(boxes: &[i32]) -> Checked
             place: count,
         });
     }
-    let mut k = count_accepted(boxes);
+    let mut k: usize = 0;
     while k < count {
         let checked = check_box(boxes::box_at(boxes, k), k + 1);
         if let Checked::Refused(refusal) = checked {

@@ -21,7 +21,7 @@ abbrev μ-loop : tie.MeasureT-loop
 
 -- the numbers of the list, and the number of boxes passed
 abbrev xs-of : tie.After-check-box Inv-loop μ-loop → List ℤ
-xs-of c = c .before .before .before .before .before .before .before .before .args .boxes .now
+xs-of c = c .before .before .before .before .before .before .before .args .boxes .now
 
 abbrev k-of : tie.After-check-box Inv-loop μ-loop → ℕ
 k-of c = c .before .before .before .loop .k
@@ -55,14 +55,7 @@ returns-3 c = simp (eq-eqb _ _ (c .before .before .if1 .left), ne-eqb _ _ (c .be
 loop-holds : tie.Need-loop-holds Inv-loop μ-loop
 unfolding boxListFault
 loop-holds c =
-    let l = c .before in
-    let f = c .count-accepted .ensures in
-    let xs = l .before .before .before .args .boxes .now in
-    let e : boxListFault xs ≡ eachBoxFault 1 (boxesOf xs) = simp (eq-eqb _ _ (l .before .before .if1 .left), ne-eqb _ _ (l .before .if2 .left), le-ltb _ _ (l .if3 .left)) in
-    (f .in-range, e ∙ f .others)
-
-count-accepted-requires : tie.Need-count-accepted-requires Inv-loop μ-loop
-count-accepted-requires c κs = tt
+    (omega arith, simp (eq-eqb _ _ (c .before .before .if1 .left), ne-eqb _ _ (c .before .if2 .left), le-ltb _ _ (c .if3 .left)))
 
 box-at-requires : tie.Need-box-at-requires Inv-loop μ-loop
 box-at-requires c κs = omega arith
@@ -103,7 +96,6 @@ check-boxes-spec =
     returns
     returns-2
     returns-3
-    count-accepted-requires
     loop-holds
     box-at-requires
     add-check-box
