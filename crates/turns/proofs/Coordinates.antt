@@ -3,17 +3,19 @@ use mathlib.Core.Path.{_≡_, sym, ap, _∙_, subst}
 use Prim.Native.Nat.{ℕ, suc, _+_, _-_, _*_, _≤_}
 use native.Mathlib.Omega.{arith}
 use lib.Dec.{T, lit≤}
-use lib.IntN.{ℤ, pos, negsuc, _+ℤ_, _-ℤ_, natAbs}
+use lib.IntN.{ℤ, pos, negsuc, _+ℤ_, _-ℤ_, _*ℤ_, natAbs}
 use lib.Signed.{nonNeg}
 use mir.Syntax.{w32, w64}
 use mir.Val.{SFits, toZ, ofZ}
 use mir.ValLaws.{toZ-ofZ}
 use Rattle.integers.specs.Upto.{Upto}
-use Rattle.integers.proofs.Expr.{_⊕_, _⊖_, ⊝_, #_, _≐_, _≼_, _⟹_}
+use Rattle.integers.proofs.Expr.{_⊕_, _⊖_, _⊗_, ⊝_, #_, _≐_, _≼_, _⟹_}
 use Rattle.integers.proofs.Lin.{lin}
+use Rattle.integers.proofs.Ring.{ring}
 use Rattle.integers.proofs.Diff.{is-self, is-neg, is-add, is-eq, is-le, le-is}
 use Rattle.integers.proofs.Machine.{fits, plain, upto-plain, upto-sub, Got, got, got′, ask-sub, got-sub, ask-add, got-add}
-use Rattle.plane.specs.Points.{InSpan, point}
+use Rattle.plane.specs.Points.{InSpan, point, signedArea}
+use Rattle.plane.proofs.Twins.{signedAreaᴱ}
 use Rattle.turns.specs.Keys.{stride, eastPart, northPart, Key, KeyOf, pointOf}
 use Rattle.turns.proofs.Parts.{east-made, north-made}
 
@@ -71,6 +73,17 @@ module _ {r z : ℤ} (e : r ≡ z) (h : Upto 32000 z) where
 -- a part of a key, widened to 64 bits
 pub part-wide : {r n : ℕ} → r ≡ n → n ≤ 32000 → Got w64 32000 (toZ w64 r) (pos n)
 part-wide {r} {n} e h = subst (λ x. Got w64 32000 (toZ w64 x) (pos n)) (sym e) (got′ w64 tt (upto-nat {b = 32000} n h))
+
+-- the signed area of three keys' points, by the parts of the first and the third
+pub area-by-parts : (a b k : ℕ) → let e = pointOf b .east -ℤ pointOf a .east in let n = pointOf b .north -ℤ pointOf a .north in
+    (e *ℤ pos (northPart k) -ℤ n *ℤ pos (eastPart k)) -ℤ (e *ℤ pos (northPart a) -ℤ n *ℤ pos (eastPart a)) ≡ signedArea (pointOf a) (pointOf b) (pointOf k)
+unfolding pointOf
+area-by-parts a b k =
+    ring 0 6 (λ ea na eb nb ek nk.
+    ((((eb ⊖ # 16000) ⊖ (ea ⊖ # 16000)) ⊗ nk ⊖ ((nb ⊖ # 16000) ⊖ (na ⊖ # 16000)) ⊗ ek) ⊖
+    (((eb ⊖ # 16000) ⊖ (ea ⊖ # 16000)) ⊗ na ⊖ ((nb ⊖ # 16000) ⊖ (na ⊖ # 16000)) ⊗ ea))
+    ≐ signedAreaᴱ (ea ⊖ # 16000, na ⊖ # 16000) (eb ⊖ # 16000, nb ⊖ # 16000) (ek ⊖ # 16000, nk ⊖ # 16000)) tt
+    (pos (eastPart a)) (pos (northPart a)) (pos (eastPart b)) (pos (northPart b)) (pos (eastPart k)) (pos (northPart k))
 
 -- ---- to a key
 

@@ -1,5 +1,4 @@
 pub mod Keys
-pub mod Lines
 pub mod Turns
 pub mod Reflection
 pub mod Sums

@@ -7,7 +7,6 @@ ghost use lib.Signed.{_≤ℤ_, ltZ};
 ghost use Rattle.plane.specs.Points.{InSpan, point, signedArea, dotProduct};
 ghost use Rattle.turns.specs.Keys.{Key, KeyOf, pointOf, eastPart, northPart};
 ghost use Rattle.turns.specs.Turns.{turnOf};
-ghost use Rattle.turns.specs.Lines.{LineOf, Drawn, SideOf};
 ghost use Rattle.turns.specs.Reflection.{reflected};
 ghost use Rattle.turns.specs.Sums.{sumOf, differenceOf, Encoded, Decoded};
 use plane::SPAN;
@@ -202,36 +201,4 @@ pub fn positive_dot_product(a: u32, b: u32, c: u32) -> u32
     ensures { λ r. ⌜ pos r ≡ dotProduct (pointOf a) (pointOf b) (pointOf c) ⌝ }
 {
     dot_product(a, b, c) as u32
-}
-
-// The line from one key's point to another's: how far it goes east and north, and what each of its points has in
-// common: east times the north part of its key, less north times the east part.
-pub struct Line {
-    pub east: i64,
-    pub north: i64,
-    pub offset: i64,
-}
-
-// The line from a's point to b's.
-pub fn line_through(a: u32, b: u32) -> Line
-    requires { ⌜ Key a × Key b ⌝ }
-    ensures { λ r. ⌜ LineOf a b r ⌝ }
-{
-    let east = east_between(a, b) as i64;
-    let north = north_between(a, b) as i64;
-    let offset = east * (north_part(a) as i64) - north * (east_part(a) as i64);
-    Line {
-        east,
-        north,
-        offset,
-    }
-}
-
-// Twice the signed area of the triangle of a line's two points and a key's: for many keys and one line, faster than
-// `signed_area`.
-pub fn side_of(line: Line, k: u32) -> i64
-    requires { ⌜ Drawn line × Key k ⌝ }
-    ensures { λ r. ⌜ SideOf line k r ⌝ }
-{
-    line.east * (north_part(k) as i64) - line.north * (east_part(k) as i64) - line.offset
 }

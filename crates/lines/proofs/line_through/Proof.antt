@@ -1,13 +1,13 @@
--- `turns::line_through` meets its contract. A difference is at most 32,000 in size, and so is a part: their products fit. Assumes nothing.
+-- `lines::line_through` meets its contract. A difference is at most 32,000 in size, and so is a part: their products fit. Assumes nothing.
 use lib.IntN.{ℤ, pos, _-ℤ_}
 use mir.Syntax.{w32, w64}
 use mir.Val.{toZ, ofZ}
 use Rattle.integers.proofs.Machine.{Got, ask-sub, got-sub, ask-mul, got-mul}
 use Rattle.turns.specs.Keys.{eastPart, northPart, pointOf}
 use Rattle.turns.proofs.Coordinates.{easts-upto, norths-upto, wide-is, wide-fits, part-wide}
 use borrow.Author.Needs.{needs}
-use Rattle.turns.proofs.line_through.Statement.{statement}
-use Rattle.turns.proofs.line_through.Tie as tie
+use Rattle.lines.proofs.line_through.Statement.{statement}
+use Rattle.lines.proofs.line_through.Tie as tie
 
 -- a difference as the function holds it
 abbrev held : ℤ → ℤ

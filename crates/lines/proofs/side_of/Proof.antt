@@ -1,22 +1,19 @@
--- `turns::side_of` meets its contract. Each product is at most 1,024,000,000 in size, and the offset at most 2,048,000,000: all fit. Assumes nothing.
+-- `lines::side_of` meets its contract. Each product is at most 1,024,000,000 in size, and the offset at most 2,048,000,000: all fit. Assumes nothing.
 use mathlib.Core.Path.{_≡_, sym, ap, ap₂, _∙_, subst}
 use Prim.Native.Nat.{ℕ}
 use lib.IntN.{pos, _-ℤ_, _*ℤ_}
 use mir.Syntax.{w64}
 use mir.Val.{toZ, ofZ}
 use Rattle.integers.specs.Upto.{Upto}
-use Rattle.integers.proofs.Expr.{_⊖_, _⊗_, #_, _≐_}
-use Rattle.integers.proofs.Ring.{ring}
 use Rattle.integers.proofs.Machine.{Got, got′, upto-sub, upto-mul, ask-sub, got-sub, ask-mul, got-mul}
 use Rattle.plane.specs.Points.{signedArea}
-use Rattle.plane.proofs.Twins.{signedAreaᴱ}
 use Rattle.turns.specs.Keys.{eastPart, northPart, pointOf}
-use Rattle.turns.specs.Lines.{LineOf, Drawn}
-use Rattle.turns.specs.declared.Line.{Line}
-use Rattle.turns.proofs.Coordinates.{easts-upto, norths-upto, upto-nat, part-wide}
+use Rattle.lines.specs.Lines.{LineOf, Drawn}
+use Rattle.lines.specs.declared.Line.{Line}
+use Rattle.turns.proofs.Coordinates.{easts-upto, norths-upto, upto-nat, part-wide, area-by-parts}
 use borrow.Author.Needs.{needs}
-use Rattle.turns.proofs.side_of.Statement.{statement}
-use Rattle.turns.proofs.side_of.Tie as tie
+use Rattle.lines.proofs.side_of.Statement.{statement}
+use Rattle.lines.proofs.side_of.Tie as tie
 
 -- the fields of a line
 module _ {l : Line} (d : Drawn l) where
@@ -35,14 +32,7 @@ module _ {l : Line} (d : Drawn l) where
 
 -- the answer, as a signed area
 is-area : (l : Line) (a b k : ℕ) → LineOf a b l → (l .east *ℤ pos (northPart k) -ℤ l .north *ℤ pos (eastPart k)) -ℤ l .offset ≡ signedArea (pointOf a) (pointOf b) (pointOf k)
-unfolding pointOf
-is-area l a b k h =
-    ap₂ _-ℤ_ (ap₂ _-ℤ_ (ap (λ z. z *ℤ pos (northPart k)) (h .east)) (ap (λ z. z *ℤ pos (eastPart k)) (h .north))) (h .offset)
-    ∙ ring 0 6 (λ ea na eb nb ek nk.
-    ((((eb ⊖ # 16000) ⊖ (ea ⊖ # 16000)) ⊗ nk ⊖ ((nb ⊖ # 16000) ⊖ (na ⊖ # 16000)) ⊗ ek) ⊖
-    (((eb ⊖ # 16000) ⊖ (ea ⊖ # 16000)) ⊗ na ⊖ ((nb ⊖ # 16000) ⊖ (na ⊖ # 16000)) ⊗ ea))
-    ≐ signedAreaᴱ (ea ⊖ # 16000, na ⊖ # 16000) (eb ⊖ # 16000, nb ⊖ # 16000) (ek ⊖ # 16000, nk ⊖ # 16000)) tt
-    (pos (eastPart a)) (pos (northPart a)) (pos (eastPart b)) (pos (northPart b)) (pos (eastPart k)) (pos (northPart k))
+is-area l a b k h = ap₂ _-ℤ_ (ap₂ _-ℤ_ (ap (λ z. z *ℤ pos (northPart k)) (h .east)) (ap (λ z. z *ℤ pos (eastPart k)) (h .north))) (h .offset) ∙ area-by-parts a b k
 
 -- the two products, and their difference
 module _ (c : tie.After-struct-told2) where

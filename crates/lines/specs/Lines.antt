@@ -3,8 +3,8 @@ use mathlib.Core.Path.{_≡_}
 use Prim.Native.Nat.{ℕ}
 use lib.IntN.{ℤ, pos, _-ℤ_, _*ℤ_}
 use Rattle.plane.specs.Points.{signedArea}
 use Rattle.turns.specs.Keys.{Key, eastPart, northPart, pointOf}
-use Rattle.turns.specs.declared.Line.{Line}
+use Rattle.lines.specs.declared.Line.{Line}
 
 -- the line from a's point to b's: how far it goes east and north, and its offset from the south-west end of the span
 pub record LineOf (a b : ℕ) (l : Line) : Type 0 where
