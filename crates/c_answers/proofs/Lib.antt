@@ -1,4 +1,1 @@
 pub mod Answering
-pub mod Areas
-pub mod Verdicts
-pub mod Files

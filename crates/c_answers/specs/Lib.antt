@@ -1,4 +1,1 @@
 pub mod Answers
-pub mod Areas
-pub mod Verdicts
-pub mod Files

@@ -7,17 +7,17 @@ ghost use Rattle.areas.specs.Areas.{OuterPromise, CornersPromise};
 ghost use Rattle.verdicts.specs.Verdicts.{VerdictIs, wordReply, verdictOn};
 ghost use Rattle.records.specs.Records.{edgesOf};
 ghost use Rattle.formats.specs.Promises.{RoundRead, RoundWritten};
-ghost use Rattle.printing.specs.Text.{Wrote, textOf};
+ghost use Rattle.texts.specs.Text.{Wrote, textOf};
 ghost use Rattle.c_answers.specs.Answers.{Answered};
-ghost use Rattle.c_answers.specs.Areas.{outerStruct, outerMeant, cornersStruct, cornersMeant};
-ghost use Rattle.c_answers.specs.Files.{readStruct, readMeant, writeStruct, writeMeant};
-ghost use Rattle.c_answers.specs.Verdicts.{verdictStruct, verdictMeant, wordStruct, wordMeant};
-use c_answers::CornersAnswer;
-use c_answers::OuterAnswer;
-use c_answers::ReadAnswer;
-use c_answers::VerdictAnswer;
-use c_answers::WordAnswer;
-use c_answers::WriteAnswer;
+ghost use Rattle.c_areas.specs.Areas.{outerStruct, outerMeant, cornersStruct, cornersMeant};
+ghost use Rattle.c_files.specs.Files.{readStruct, readMeant, writeStruct, writeMeant};
+ghost use Rattle.c_verdicts.specs.Verdicts.{verdictStruct, verdictMeant, wordStruct, wordMeant};
+use c_areas::CornersAnswer;
+use c_areas::OuterAnswer;
+use c_files::ReadAnswer;
+use c_files::WriteAnswer;
+use c_verdicts::VerdictAnswer;
+use c_verdicts::WordAnswer;
 use printing::TEXT_LENGTH;
 use rounds::Box;
 
@@ -27,7 +27,7 @@ pub extern "C" fn feltloquat_outer_polygon(boxes: &[i32], answer: &mut [i32]) ->
     ensures { λ r. ⌜ Answered outerStruct outerMeant (λ reply.
         OuterPromise (now (boxes .entry)) (now (answer .entry)) reply (now (answer .exit))) r ⌝ }
 {
-    c_answers::outer_struct(areas::outer_polygon(boxes, answer))
+    c_areas::outer_struct(areas::outer_polygon(boxes, answer))
 }
 
 // The corner polygons SW, SE, NE, NW of the boxes, one behind another in answer.
@@ -36,7 +36,7 @@ pub extern "C" fn feltloquat_corner_polygons(boxes: &[i32], answer: &mut [i32]) 
     ensures { λ r. ⌜ Answered cornersStruct cornersMeant (λ reply.
         CornersPromise (now (boxes .entry)) (now (answer .entry)) reply (now (answer .exit))) r ⌝ }
 {
-    c_answers::corners_struct(areas::corner_polygons(boxes, answer))
+    c_areas::corners_struct(areas::corner_polygons(boxes, answer))
 }
 
 // The verdict on the plug at an east and a north, with its reasons where it is undecided.
@@ -44,7 +44,7 @@ pub extern "C" fn feltloquat_corner_polygons(boxes: &[i32], answer: &mut [i32]) 
 pub extern "C" fn feltloquat_verdict(boxes: &[i32], east: i32, north: i32) -> VerdictAnswer
     ensures { λ r. ⌜ Answered verdictStruct verdictMeant (VerdictIs (now (boxes .entry)) (point east north)) r ⌝ }
 {
-    c_answers::verdict_struct(verdicts::verdict_on(boxes, east, north))
+    c_verdicts::verdict_struct(verdicts::verdict_on(boxes, east, north))
 }
 
 // The verdict's word alone.
@@ -53,7 +53,7 @@ pub extern "C" fn feltloquat_word(boxes: &[i32], east: i32, north: i32) -> WordA
     ensures { λ r. ⌜ Answered wordStruct wordMeant (λ reply.
         wordReply reply ≡ verdictOn (now (boxes .entry)) (point east north)) r ⌝ }
 {
-    c_answers::word_struct(verdicts::word_on(boxes, east, north))
+    c_verdicts::word_struct(verdicts::word_on(boxes, east, north))
 }
 
 // The verdict for boxes lent as a list of records.
@@ -66,7 +66,7 @@ pub extern "C" fn feltloquat_verdict_on_records(
     ensures { λ r. ⌜ Answered verdictStruct verdictMeant
         (VerdictIs (edgesOf (now (boxes .entry))) (point east north)) r ⌝ }
 {
-    c_answers::verdict_struct(records::verdict_on(boxes, east, north))
+    c_verdicts::verdict_struct(records::verdict_on(boxes, east, north))
 }
 
 // Reads a round file into a buffer of boxes and one of plugs.
@@ -80,7 +80,7 @@ pub extern "C" fn feltloquat_read_round(
         RoundRead (now (file .entry)) (now (boxes .entry)) (now (plugs .entry)) reading
         (now (boxes .exit)) (now (plugs .exit))) r ⌝ }
 {
-    c_answers::read_struct(files::read_round(file, boxes, plugs))
+    c_files::read_struct(files::read_round(file, boxes, plugs))
 }
 
 // Writes a round as a file without notes.
@@ -93,7 +93,7 @@ pub extern "C" fn feltloquat_write_round(
     ensures { λ r. ⌜ Answered writeStruct writeMeant (λ writing.
         RoundWritten (now (boxes .entry)) (now (plugs .entry)) (now (file .entry)) writing (now (file .exit))) r ⌝ }
 {
-    c_answers::write_struct(files::write_round(boxes, plugs, file))
+    c_files::write_struct(files::write_round(boxes, plugs, file))
 }
 
 // The text that the printing program prints for a round file, and how many bytes it has.

@@ -1,69 +1,12 @@
-// The checks of a box list, a plug, a plug list and a lent buffer's length: causes 1 to 7 of document 01's table.
+// The checks of a plug, a plug list and a lent buffer's length, and of what the public calls are lent: causes 1 to 7 of
+// document 01's table.
 ghost use mathlib.Core.Path.{_≡_};
 ghost use Rattle.plane.specs.Points.{point};
-ghost use Rattle.rounds.specs.Refusals.{faultOf, _orElse_, boxFault};
-ghost use Rattle.rounds.specs.Refusals.{boxListFault, plugFault, plugListFault, bufferFault, areaFault, verdictFault};
-use rounds::Box;
+ghost use Rattle.rounds.specs.Refusals.{faultOf, _orElse_};
+ghost use Rattle.rounds.specs.Refusals.{plugFault, plugListFault, bufferFault, areaFault, verdictFault};
 use rounds::Cause;
 use rounds::Checked;
-use rounds::MOST_BOXES;
 use rounds::Refusal;
-
-// Checks box number `number`: 4 before 5.
-fn check_box(b: Box, number: usize) -> Checked
-    ensures { λ r. ⌜ faultOf r ≡ boxFault number b ⌝ }
-{
-    let beyond = bounds::has_edge_beyond(b);
-    let reversed = bounds::is_reversed(b);
-    if !(beyond | reversed) {
-        return Checked::Accepted;
-    }
-    if beyond {
-        return Checked::Refused(Refusal {
-            cause: Cause::EdgeBeyond,
-            place: number,
-        });
-    }
-    Checked::Refused(Refusal {
-        cause: Cause::EdgesReversed,
-        place: number,
-    })
-}
-
-// Checks a box list: 1, 2, 3, then box by box.
-pub fn check_boxes(boxes: &[i32]) -> Checked
-    ensures { λ r. ⌜ faultOf r ≡ boxListFault (now (boxes .entry)) ⌝ }
-{
-    let length = boxes.len();
-    if length % 4 != 0 {
-        return Checked::Refused(Refusal {
-            cause: Cause::ListLength,
-            place: length,
-        });
-    }
-    if length == 0 {
-        return Checked::Refused(Refusal {
-            cause: Cause::NoBox,
-            place: 0,
-        });
-    }
-    let count = length / 4;
-    if MOST_BOXES < count {
-        return Checked::Refused(Refusal {
-            cause: Cause::TooManyBoxes,
-            place: count,
-        });
-    }
-    let mut k: usize = 0;
-    while k < count {
-        let checked = check_box(boxes::box_at(boxes, k), k + 1);
-        if let Checked::Refused(refusal) = checked {
-            return Checked::Refused(refusal);
-        }
-        k += 1;
-    }
-    Checked::Accepted
-}
 
 // Checks plug number `number`: 6.
 pub fn check_plug(east: i32, north: i32, number: usize) -> Checked
@@ -135,7 +78,7 @@ pub fn first_refusal(first: Checked, second: Checked) -> Checked
 pub fn check_area(boxes: &[i32], given: usize) -> Checked
     ensures { λ r. ⌜ faultOf r ≡ areaFault (now (boxes .entry)) given ⌝ }
 {
-    let listed = check_boxes(boxes);
+    let listed = box_checks::check_boxes(boxes);
     let measured = check_buffer(boxes.len() / 4 * 8, given);
     first_refusal(listed, measured)
 }
@@ -144,7 +87,7 @@ pub fn check_area(boxes: &[i32], given: usize) -> Checked
 pub fn check_verdict(boxes: &[i32], east: i32, north: i32) -> Checked
     ensures { λ r. ⌜ faultOf r ≡ verdictFault (now (boxes .entry)) (point east north) ⌝ }
 {
-    let checked = check_boxes(boxes);
+    let checked = box_checks::check_boxes(boxes);
     if let Checked::Refused(refusal) = checked {
         return Checked::Refused(refusal);
     }

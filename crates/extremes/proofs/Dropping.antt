@@ -9,7 +9,7 @@ use native.Mathlib.Decide.{decLt}
 use native.Mathlib.Omega.{arith}
 use lib.ListN.{length, set, take, length-set}
 use lib.Seq.{getD-set-same, getD-set-other, length-take-le, getD-take}
-use Rattle.sorting.specs.Order.{get, EachAmong}
+use Rattle.orders.specs.Order.{get, EachAmong}
 use Rattle.turns.specs.Keys.{eastPart, northPart, AllKeys}
 use Rattle.turns.specs.Sums.{Encoded, Decoded}
 use Rattle.extremes.specs.Inner.{Among, FarKeys, Bounds, InRectangle, Inner, Kept, Outer}

@@ -5,7 +5,7 @@ use mathlib.Core.Logic.{_⊎_}
 use mathlib.Core.List.{List}
 use Prim.Native.Nat.{ℕ, _≤_, _<_}
 use lib.ListN.{length}
-use Rattle.sorting.specs.Order.{get, EachAmong}
+use Rattle.orders.specs.Order.{get, EachAmong}
 use Rattle.turns.specs.Keys.{eastPart, northPart}
 
 -- x is one of the first n numbers of f

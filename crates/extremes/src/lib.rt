@@ -6,7 +6,7 @@ ghost use mathlib.Core.Logic.{_⊎_};
 ghost use Prim.Native.Nat.{_-_, _≤_, _<_};
 ghost use lib.ListN.{length};
 ghost use Rattle.turns.specs.Keys.{AllKeys};
-ghost use Rattle.sorting.specs.Order.{get};
+ghost use Rattle.orders.specs.Order.{get};
 ghost use Rattle.extremes.specs.Inner.{EndsOf, Lesser, Greater, FarKeys, Bounds, InRectangle, Kept, Outer};
 
 // Fewer keys than these are all kept. At these many, dropping nearly halves the time for points at random and costs

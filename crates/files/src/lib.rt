@@ -144,7 +144,7 @@ fn write_plugs(plugs: &[i32], file: &mut [u8], at: usize)
 pub fn write_round(boxes: &[i32], plugs: &[i32], file: &mut [u8]) -> Writing
     ensures { λ r. ⌜ RoundWritten (now (boxes .entry)) (now (plugs .entry)) (now (file .entry)) r (now (file .exit)) ⌝ }
 {
-    let listed = checks::first_refusal(checks::check_boxes(boxes), checks::check_plugs(plugs));
+    let listed = checks::first_refusal(box_checks::check_boxes(boxes), checks::check_plugs(plugs));
     if let Checked::Refused(refusal) = listed {
         return Writing::Refused(refusal);
     }

@@ -5,8 +5,8 @@ use native.Mathlib.Decide.{decLt}
 use native.Mathlib.Omega.{arith}
 use lib.IntN.{pos}
 use lib.Signed.{_<ℤ_}
-use Rattle.hulls.specs.Chains.{turn, Chain}
-use Rattle.hulls.proofs.Turning.{around, onward}
+use Rattle.chains.specs.Chains.{turn, Chain}
+use Rattle.chains.proofs.Turning.{around, onward}
 
 module _ (q : ℕ → ℕ) (m : ℕ) (s : ℕ → ℕ) (k : ℕ) (ch : Chain q m s k) where
   pub rises : (i j : ℕ) → i < j → j < k → s i < s j

@@ -9,13 +9,13 @@ use lib.Dec.{ltb}
 use borrow.Author.Tests.{lt-ltb, le-ltb}
 use lib.IntN.{pos}
 use lib.Signed.{_≤ℤ_, _<ℤ_}
-use Rattle.sorting.specs.Order.{Sorted, EachAmong}
-use Rattle.sorting.proofs.Pigeons.{within-few}
+use Rattle.orders.specs.Order.{Sorted, EachAmong}
+use Rattle.orders.proofs.Pigeons.{within-few}
 use Rattle.turns.specs.Keys.{Key, AllKeys}
 use Rattle.turns.specs.Reflection.{reflected}
 use Rattle.turns.proofs.Reflection.{reflected-less}
-use Rattle.hulls.specs.Chains.{turn, Chain}
-use Rattle.hulls.proofs.Turning.{cyclic-<, turn-end, not-both, around, around-last}
+use Rattle.chains.specs.Chains.{turn, Chain}
+use Rattle.chains.proofs.Turning.{cyclic-<, turn-end, not-both, around, around-last}
 use Rattle.hulls.proofs.Fan.{rises, fan}
 use Rattle.hulls.proofs.Mirroring.{Mirrors, reflected-turn, mirror-keys, mirror-back}
 

@@ -16,21 +16,22 @@ use Rattle.turns.specs.Keys.{pointOf, AllKeys}
 use Rattle.turns.specs.Reflection.{reflected}
 use Rattle.turns.proofs.Parts.{east-first, east-less, north-less, key-below, bound-twice}
 use Rattle.turns.proofs.Reflection.{reflected-less}
-use Rattle.sorting.specs.Order.{get, Sorted, EachAmong}
-use Rattle.sorting.specs.Count.{SortedOf}
-use Rattle.sorting.proofs.Counting.{within, same-sym}
-use Rattle.sorting.proofs.Passes.{rearranged-length}
-use Rattle.sorting.proofs.Digits.{passes, rearranged-passes, sorted-passes}
-use Rattle.sorting.proofs.Front.{front-within}
-use Rattle.hulls.specs.Chains.{turn, Chain}
+use Rattle.orders.specs.Order.{get, Sorted, EachAmong}
+use Rattle.orders.specs.Count.{SortedOf}
+use Rattle.orders.proofs.Counting.{within, same-sym}
+use Rattle.orders.proofs.Passes.{rearranged-length}
+use Rattle.orders.proofs.Digits.{passes, rearranged-passes, sorted-passes}
+use Rattle.orders.proofs.Front.{front-within}
+use Rattle.chains.specs.Chains.{turn, Chain, framed}
 use Rattle.extremes.specs.Inner.{EndsOf, Among, Inner, Outer}
-use Rattle.hulls.specs.Halves.{Part, Halves, PartsReordered, Appended, framed}
+use Rattle.halves.specs.Halves.{Part, Halves, PartsReordered, Appended}
 use Rattle.hulls.specs.Hulls.{Least, Hull}
-use Rattle.hulls.proofs.Chaining.{among, chain-keys}
-use Rattle.hulls.proofs.Turning.{turn-over}
+use Rattle.chains.proofs.Chaining.{among, chain-keys}
+use Rattle.chains.proofs.Turning.{turn-over}
 use Rattle.hulls.proofs.Mirroring.{Mirrors, reflected-turn, mirror-keys, mirror-sorted}
-use Rattle.hulls.proofs.Halving.{Half, Left, Right, NotLeft, NotRight, widen}
-use Rattle.hulls.proofs.Parting.{sorted-front, part-front, first-key, last-key, upper-amid, lower-amid, half-of}
+use Rattle.hulls.proofs.Halving.{Half, widen}
+use Rattle.halves.proofs.Halving.{Left, Right, NotLeft, NotRight, first-key, last-key}
+use Rattle.hulls.proofs.Parting.{sorted-front, part-front, upper-amid, lower-amid, half-of}
 use Rattle.hulls.proofs.Listing.{Closed, closed-few, single-key, closed-is, sides-few}
 use Rattle.hulls.proofs.Outlines.{closed-outline, point-in, from-point, within-points}
 use Rattle.extremes.proofs.Dropping.{front-rest}

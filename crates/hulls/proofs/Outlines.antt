@@ -16,9 +16,9 @@ use Rattle.plane.proofs.PolygonFacts.{TurnsRight, Between}
 use Rattle.plane.proofs.Outline.{Outline, one-point, in-line, area}
 use Rattle.turns.specs.Keys.{pointOf}
 use Rattle.turns.proofs.Order.{point-injective}
-use Rattle.sorting.specs.Order.{get, EachAmong}
-use Rattle.hulls.specs.Chains.{turn}
-use Rattle.hulls.proofs.Turning.{turn-back, between}
+use Rattle.orders.specs.Order.{get, EachAmong}
+use Rattle.chains.specs.Chains.{turn}
+use Rattle.chains.proofs.Turning.{turn-back, between}
 use Rattle.hulls.proofs.Listing.{Next, on, round, Closed}
 
 -- ---- the points of a list of keys, by index

@@ -10,16 +10,17 @@ use lib.Signed.{_≤ℤ_, _<ℤ_}
 use lib.ListN.{length, take}
 use lib.Seq.{length-take-le, getD-take}
 use Rattle.integers.proofs.Rules.{zrules}
-use Rattle.sorting.specs.Order.{get, Sorted, EachAmong}
+use Rattle.orders.specs.Order.{get, Sorted, EachAmong}
 use Rattle.turns.specs.Keys.{Key, AllKeys}
 use Rattle.turns.specs.Reflection.{reflected}
 use Rattle.turns.proofs.Reflection.{reflected-key, reflected-less}
-use Rattle.hulls.specs.Chains.{turn}
+use Rattle.chains.specs.Chains.{turn, Amid, framed}
 use Rattle.extremes.specs.Inner.{Among, EndsOf}
-use Rattle.hulls.specs.Halves.{Part, Reordered, Amid, framed}
-use Rattle.hulls.proofs.Turning.{turn-first, turn-last}
-use Rattle.hulls.proofs.Framing.{Place, at-first, amid, at-last, place-of, framed-at, framed-last, framed-sorted}
-use Rattle.hulls.proofs.Halving.{Half, Left, Right, NotLeft, NotRight}
+use Rattle.halves.specs.Halves.{Part, Reordered}
+use Rattle.chains.proofs.Turning.{turn-first, turn-last}
+use Rattle.chains.proofs.Framing.{Place, at-first, amid, at-last, place-of, framed-at, framed-last, framed-sorted}
+use Rattle.halves.proofs.Halving.{Left, Right, NotLeft, NotRight, last-key}
+use Rattle.hulls.proofs.Halving.{Half}
 
 -- ---- a part, in order, as a callee sees it that is lent the first of a list
 
@@ -70,12 +71,6 @@ module _ {keys : List ℕ} {first last : ℕ} (ends : EndsOf keys first last) wh
       go (no o) = let e : get keys i ≡ last = omega (arith, ends .most i h) in absurd (off (get keys i) (rw e (turn-last first last)) t)
 
   module _ (ks : AllKeys (get keys) (length keys)) where
-    pub first-key : Key first
-    first-key = let r = ends .first-in in subst Key (sym (r .2)) (ks .key (r .0) (r .1))
-
-    pub last-key : Key last
-    last-key = let r = ends .last-in in subst Key (sym (r .2)) (ks .key (r .0) (r .1))
-
     -- the part that is left of the line
     module _ {out : ℕ → ℕ} {u : ℕ} (p : Part (get keys) (length keys) (λ k. k) out u (Left first last) (NotLeft first last)) where
       pub upper-amid : Amid out u first last
@@ -93,7 +88,7 @@ module _ {keys : List ℕ} {first last : ℕ} (ends : EndsOf keys first last) wh
       pub lower-amid : Amid out v (reflected last) (reflected first)
       lower-amid =
           record {
-            above = λ j h. let r = p .from j h in rw (r .2) (reflected-less last-key (before-last (r .0) (r .1) (inr (r .3))));
+            above = λ j h. let r = p .from j h in rw (r .2) (reflected-less (last-key ends ks) (before-last (r .0) (r .1) (inr (r .3))));
             below = λ j h. let r = p .from j h in rw (r .2) (reflected-less (ks .key (r .0) (r .1)) (after-first (r .0) (r .1) (inr (r .3))));
           }
 

@@ -5,7 +5,7 @@ use Prim.Native.Nat.{ℕ, _≤_, _<_}
 use lib.ListN.{length, take}
 use Rattle.plane.specs.Polygons.{Polygon}
 use Rattle.turns.specs.Keys.{pointOf, AllKeys}
-use Rattle.sorting.specs.Order.{get}
+use Rattle.orders.specs.Order.{get}
 
 -- x is the least number of the list: of keys, that of the westmost point, and the southmost of those
 pub record Least (l : List ℕ) (x : ℕ) : Type 0 where

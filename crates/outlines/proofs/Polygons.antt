@@ -11,7 +11,7 @@ use Rattle.plane.specs.Points.{Point}
 use Rattle.plane.specs.Polygons.{Polygon}
 use Rattle.plane.proofs.Lists.{all-by-index, index-of-all}
 use Rattle.turns.specs.Keys.{Key, pointOf, AllKeys}
-use Rattle.sorting.specs.Order.{get}
+use Rattle.orders.specs.Order.{get}
 use Rattle.hulls.specs.Hulls.{Hull}
 use Rattle.rounds.specs.Boxes.{boxesOf, allCorners}
 use Rattle.rounds.specs.declared.Corner.the-variants.{SouthWest, SouthEast, NorthEast, NorthWest}

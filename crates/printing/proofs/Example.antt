@@ -16,8 +16,8 @@ use Rattle.rounds.proofs.Checks.{ordered-yes, outside-yes, undecided-yes}
 use Rattle.rounds.proofs.Total.{exactly}
 use Rattle.formats.specs.Format.{markAt, numberAt, fileBoxAt, filePlugAt, kindOf, nextAt}
 use Rattle.formats.specs.Content.{kindFault, formFault, readFrom, contentOf}
-use Rattle.printing.specs.Decimals.{digitsOf, decimal}
-use Rattle.printing.specs.Text.{ascii, countLine, plugLine, plugLines, wholeFault, textOf}
+use Rattle.texts.specs.Decimals.{digitsOf, decimal}
+use Rattle.texts.specs.Text.{ascii, countLine, plugLine, plugLines, wholeFault, textOf}
 
 -- its bytes: a box 0 0 4 4, the plugs (2, 2) and (5, 2), and the end
 abbrev pub example : List ℕ

@@ -24,9 +24,9 @@ use Rattle.formats.proofs.Bytes.{length-flat, count-plugs}
 use Rattle.formats.proofs.Replies.{result-none}
 use Rattle.formats.proofs.Scan.{short}
 use Rattle.formats.proofs.RoundTrips.{boxes-flat, plugs-flat}
-use Rattle.printing.specs.Text.{refusedLine, countLine, plugLines, wholeFault, textUnder, textOf}
+use Rattle.texts.specs.Text.{refusedLine, countLine, plugLines, wholeFault, textUnder, textOf}
 use Rattle.printing.specs.Steps.{mostCountLine, mostEdges, mostCoordinates, roundText}
-use Rattle.printing.proofs.Decimals.{twenty-digits}
+use Rattle.texts.proofs.Decimals.{twenty-digits}
 
 -- ---- of two lists
 

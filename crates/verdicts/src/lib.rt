@@ -4,13 +4,13 @@ ghost use Rattle.plane.specs.Points.{point};
 ghost use Rattle.turns.specs.Keys.{Key, pointOf};
 ghost use Rattle.rounds.specs.Boxes.{BoxList, boxesOf};
 ghost use Rattle.verdicts.specs.Verdicts.{Judged, VerdictIs, wordReply, verdictOn};
-use reasons::Balance;
-use reasons::Support;
+use balances::Balance;
 use rounds::Checked;
 use rounds::Corner;
 use rounds::Reasons;
 use rounds::Refusal;
 use rounds::Word;
+use supports::Support;
 
 // The verdict on a plug.
 pub enum Verdict {
@@ -32,11 +32,11 @@ fn judge(boxes: &[i32], plug: u32) -> Verdict
     ensures { λ r. ⌜ Judged (boxesOf (now (boxes .entry))) (pointOf plug) r ⌝ }
 {
     let view = views::view_of(boxes, Corner::SouthWest, plug);
-    let balance = reasons::balance_of(boxes, plug, view);
+    let balance = balances::balance_of(boxes, plug, view);
     let Balance::Reason(first, second, third) = balance else {
         return Verdict::Outside;
     };
-    let support = reasons::support_of(boxes, plug, view);
+    let support = supports::support_of(boxes, plug, view);
     let Support::Reason(direction) = support else {
         return Verdict::Inside;
     };

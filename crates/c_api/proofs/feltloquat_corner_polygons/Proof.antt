@@ -1,7 +1,7 @@
 -- `c_api::feltloquat_corner_polygons` meets its contract: it gives the reply that `areas::corner_polygons` promises. Assumes nothing.
-use Rattle.c_answers.specs.Areas.{cornersStruct, cornersMeant}
+use Rattle.c_areas.specs.Areas.{cornersStruct, cornersMeant}
 use Rattle.c_answers.proofs.Answering.{answered}
-use Rattle.c_answers.proofs.Areas.{corners-back}
+use Rattle.c_areas.proofs.Areas.{corners-back}
 use borrow.Author.Needs.{needs}
 use Rattle.c_api.proofs.feltloquat_corner_polygons.Statement.{statement}
 use Rattle.c_api.proofs.feltloquat_corner_polygons.Tie as tie

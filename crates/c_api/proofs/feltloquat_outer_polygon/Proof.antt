@@ -1,7 +1,7 @@
 -- `c_api::feltloquat_outer_polygon` meets its contract: it gives the reply that `areas::outer_polygon` promises. Assumes nothing.
-use Rattle.c_answers.specs.Areas.{outerStruct, outerMeant}
+use Rattle.c_areas.specs.Areas.{outerStruct, outerMeant}
 use Rattle.c_answers.proofs.Answering.{answered}
-use Rattle.c_answers.proofs.Areas.{outer-back}
+use Rattle.c_areas.proofs.Areas.{outer-back}
 use borrow.Author.Needs.{needs}
 use Rattle.c_api.proofs.feltloquat_outer_polygon.Statement.{statement}
 use Rattle.c_api.proofs.feltloquat_outer_polygon.Tie as tie

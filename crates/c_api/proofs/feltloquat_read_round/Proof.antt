@@ -1,7 +1,7 @@
 -- `c_api::feltloquat_read_round` meets its contract: it gives the answer that `files::read_round` promises. Assumes nothing.
-use Rattle.c_answers.specs.Files.{readStruct, readMeant}
+use Rattle.c_files.specs.Files.{readStruct, readMeant}
 use Rattle.c_answers.proofs.Answering.{answered}
-use Rattle.c_answers.proofs.Files.{read-back}
+use Rattle.c_files.proofs.Files.{read-back}
 use borrow.Author.Needs.{needs}
 use Rattle.c_api.proofs.feltloquat_read_round.Statement.{statement}
 use Rattle.c_api.proofs.feltloquat_read_round.Tie as tie

@@ -3,9 +3,9 @@ use mir.Syntax.{w32}
 use mir.ValLaws.{toZ-ofZ}
 use Rattle.plane.specs.Points.{point}
 use Rattle.verdicts.specs.Verdicts.{VerdictIs}
-use Rattle.c_answers.specs.Verdicts.{verdictStruct, verdictMeant}
+use Rattle.c_verdicts.specs.Verdicts.{verdictStruct, verdictMeant}
 use Rattle.c_answers.proofs.Answering.{answered}
-use Rattle.c_answers.proofs.Verdicts.{verdict-back}
+use Rattle.c_verdicts.proofs.Verdicts.{verdict-back}
 use borrow.Author.Needs.{needs}
 use Rattle.c_api.proofs.feltloquat_verdict.Statement.{statement}
 use Rattle.c_api.proofs.feltloquat_verdict.Tie as tie

@@ -49,16 +49,16 @@ use Rattle.records.proofs.verdict_on.Symbol as judged-def
 use Rattle.records.proofs.verdict_on.Symbol.{name as on-name}
 use Rattle.records.proofs.verdict_on.Met as judged-thm
 use Rattle.c_answers.specs.Answers.{Answered}
-use Rattle.c_answers.specs.Verdicts.{verdictStruct, verdictMeant}
-use Rattle.c_answers.specs.declared.VerdictAnswer.{VerdictAnswer}
+use Rattle.c_verdicts.specs.Verdicts.{verdictStruct, verdictMeant}
+use Rattle.c_verdicts.specs.declared.VerdictAnswer.{VerdictAnswer}
 use Rattle.c_answers.proofs.Answering.{answered}
-use Rattle.c_answers.proofs.Verdicts.{verdict-back}
-use Rattle.c_answers.proofs.VerdictAnswer as N
-use Rattle.c_answers.proofs.VerdictAnswer.Laws as N′
-use Rattle.c_answers.proofs.verdict_struct as made
-use Rattle.c_answers.proofs.verdict_struct.Symbol as made-def
-use Rattle.c_answers.proofs.verdict_struct.Symbol.{name as struct-name}
-use Rattle.c_answers.proofs.verdict_struct.Met as made-thm
+use Rattle.c_verdicts.proofs.Verdicts.{verdict-back}
+use Rattle.c_verdicts.proofs.VerdictAnswer as N
+use Rattle.c_verdicts.proofs.VerdictAnswer.Laws as N′
+use Rattle.c_verdicts.proofs.verdict_struct as made
+use Rattle.c_verdicts.proofs.verdict_struct.Symbol as made-def
+use Rattle.c_verdicts.proofs.verdict_struct.Symbol.{name as struct-name}
+use Rattle.c_verdicts.proofs.verdict_struct.Met as made-thm
 use Rattle.c_api.proofs.feltloquat_verdict_on_records.Key.{name as entry-name}
 use Rattle.c_api.proofs.feltloquat_verdict_on_records as entry
 use Rattle.c_api.proofs.feltloquat_verdict_on_records.Statement as stated
@@ -195,4 +195,4 @@ feltloquat-verdict-on-records-spec 𝓤 H 𝓜 𝓖 𝓡 =
     (tables 𝓤 H 𝓜 𝓡 code.env .C) (tables 𝓤 H 𝓜 𝓡 code.env .Λ) entry-name code.function (code.unfolded 𝓤 H 𝓜 𝓡)
     (entry-meets 𝓤 H (𝓖 .A) (givenOf 𝓤 H 𝓜 𝓖) (𝓜 .mem) (𝓡 .run) (tablesOf 𝓤 H 𝓜 (tables 𝓤 H 𝓜 𝓡 code.env))
     (cited 𝓤 H (On 𝓤 H (𝓖 .A) (𝓜 .mem) (𝓡 .run)) 𝓜 𝓡 code.env on-name judged-def.routine code.calls-records·verdict-on (judged-thm.met 𝓤 H 𝓜 𝓖 𝓡))
-    (cited 𝓤 H (Give 𝓤 H (𝓖 .A) (𝓜 .mem) (𝓡 .run)) 𝓜 𝓡 code.env struct-name made-def.routine code.calls-c-answers·verdict-struct (made-thm.met 𝓤 H 𝓜 𝓖 𝓡)))
+    (cited 𝓤 H (Give 𝓤 H (𝓖 .A) (𝓜 .mem) (𝓡 .run)) 𝓜 𝓡 code.env struct-name made-def.routine code.calls-c-verdicts·verdict-struct (made-thm.met 𝓤 H 𝓜 𝓖 𝓡)))

@@ -4,9 +4,9 @@ use mir.Syntax.{w32}
 use mir.ValLaws.{toZ-ofZ}
 use Rattle.plane.specs.Points.{point}
 use Rattle.verdicts.specs.Verdicts.{wordReply, verdictOn}
-use Rattle.c_answers.specs.Verdicts.{wordStruct, wordMeant}
+use Rattle.c_verdicts.specs.Verdicts.{wordStruct, wordMeant}
 use Rattle.c_answers.proofs.Answering.{answered}
-use Rattle.c_answers.proofs.Verdicts.{word-back}
+use Rattle.c_verdicts.proofs.Verdicts.{word-back}
 use borrow.Author.Needs.{needs}
 use Rattle.c_api.proofs.feltloquat_word.Statement.{statement}
 use Rattle.c_api.proofs.feltloquat_word.Tie as tie

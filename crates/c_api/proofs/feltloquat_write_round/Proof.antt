@@ -1,7 +1,7 @@
 -- `c_api::feltloquat_write_round` meets its contract: it gives the answer that `files::write_round` promises. Assumes nothing.
-use Rattle.c_answers.specs.Files.{writeStruct, writeMeant}
+use Rattle.c_files.specs.Files.{writeStruct, writeMeant}
 use Rattle.c_answers.proofs.Answering.{answered}
-use Rattle.c_answers.proofs.Files.{write-back}
+use Rattle.c_files.proofs.Files.{write-back}
 use borrow.Author.Needs.{needs}
 use Rattle.c_api.proofs.feltloquat_write_round.Statement.{statement}
 use Rattle.c_api.proofs.feltloquat_write_round.Tie as tie

@@ -5,7 +5,7 @@ use Prim.Native.Nat.{ℕ, _+_, _-_, _≤_, _<_}
 use native.Mathlib.Decide.{decLt}
 use native.Mathlib.Omega.{arith}
 use lib.ListN.{length}
-use Rattle.sorting.specs.Order.{get}
+use Rattle.orders.specs.Order.{get}
 use Rattle.extremes.specs.Inner.{Lesser, Greater, EndsOf}
 use Rattle.extremes.proofs.Dropping.{taken}
 use Rattle.extremes.proofs.find_ends.Statement.{statement}

@@ -3,10 +3,10 @@ use mathlib.Core.Path.{_≡_, refl, _∙_, subst}
 use Prim.Native.Nat.{_+_, _-_, _≤_}
 use native.Mathlib.Omega.{arith}
 use lib.ListN.{length, length-set}
-use Rattle.sorting.specs.Order.{get}
+use Rattle.orders.specs.Order.{get}
 use Rattle.turns.specs.Reflection.{reflected}
-use Rattle.hulls.specs.Halves.{Appended}
-use Rattle.hulls.proofs.Mirroring.{append-more}
+use Rattle.halves.specs.Halves.{Appended}
+use Rattle.halves.proofs.Appending.{append-more}
 use Rattle.hulls.proofs.append_reflected.Statement.{statement}
 use Rattle.hulls.proofs.append_reflected.Tie as tie
 

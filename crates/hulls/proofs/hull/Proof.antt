@@ -5,8 +5,8 @@ use Prim.Native.Nat.{_≤_}
 use native.Mathlib.Omega.{arith}
 use lib.ListN.{length}
 use lib.Seq.{length-take-le}
-use Rattle.sorting.proofs.Front.{front-within}
-use Rattle.hulls.proofs.Chaining.{among}
+use Rattle.orders.proofs.Front.{front-within}
+use Rattle.chains.proofs.Chaining.{among}
 use Rattle.extremes.proofs.Dropping.{outer-some}
 use Rattle.hulls.proofs.Made.{left-hull}
 use borrow.Author.Needs.{needs}

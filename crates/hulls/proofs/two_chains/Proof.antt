@@ -7,7 +7,8 @@ use lib.ListN.{length}
 use lib.Seq.{length-take-le}
 use Rattle.turns.proofs.Reflection.{reflected-key, reflected-less}
 use Rattle.turns.specs.Keys.{Key}
-use Rattle.hulls.proofs.Parting.{sorted-front, part-front, first-key, last-key, upper-amid, upper-keys, lower-amid, lower-keys}
+use Rattle.hulls.proofs.Parting.{sorted-front, part-front, upper-amid, upper-keys, lower-amid, lower-keys}
+use Rattle.halves.proofs.Halving.{first-key, last-key}
 use Rattle.hulls.proofs.Made.{TwoChains, made}
 use borrow.Author.Needs.{needs}
 use Rattle.hulls.proofs.two_chains.Statement.{statement}

@@ -2,7 +2,7 @@
 use mathlib.Core.Path.{sym}
 use borrow.Author.Needs.{needs}
 use lib.Seq.{length-take-le}
-use Rattle.printing.proofs.Writing.{wrote-fits}
+use Rattle.texts.proofs.Writing.{wrote-fits}
 use Rattle.print_round.proofs.main.Statement.{statement}
 use Rattle.print_round.proofs.main.Tie as tie
 

@@ -1,8 +1,8 @@
 -- `printing::write_counts` meets its contract: no number has more than twenty digits. Assumes nothing.
 use native.Mathlib.Omega.{arith}
 use borrow.Author.Needs.{needs}
-use Rattle.printing.specs.Text.{countLine}
-use Rattle.printing.proofs.Decimals.{twenty-digits}
+use Rattle.texts.specs.Text.{countLine}
+use Rattle.texts.proofs.Decimals.{twenty-digits}
 use Rattle.printing.proofs.write_counts.Statement.{statement}
 use Rattle.printing.proofs.write_counts.Tie as tie
 

@@ -2,9 +2,9 @@
 use mathlib.Core.Path.{ap}
 use native.Mathlib.Omega.{arith}
 use borrow.Author.Needs.{needs}
-use Rattle.printing.specs.Text.{refusedLine}
-use Rattle.printing.proofs.Decimals.{twenty-digits}
-use Rattle.printing.proofs.Writing.{wrote-as}
+use Rattle.texts.specs.Text.{refusedLine}
+use Rattle.texts.proofs.Decimals.{twenty-digits}
+use Rattle.texts.proofs.Writing.{wrote-as}
 use Rattle.printing.proofs.write_refusal.Statement.{statement}
 use Rattle.printing.proofs.write_refusal.Tie as tie
 

@@ -6,9 +6,9 @@ use borrow.Author.Needs.{needs}
 use lib.ListN.{length}
 use Rattle.rounds.specs.Refusals.{none, faultOf, boxListFault}
 use Rattle.rounds.proofs.Accepted.{accepted}
-use Rattle.printing.specs.Text.{countLine}
-use Rattle.printing.specs.Steps.{mostPlugLine}
-use Rattle.printing.proofs.Writing.{then-wrote, room-after, room-behind, wrote-as, both-fit}
+use Rattle.texts.specs.Text.{countLine}
+use Rattle.plug_lines.specs.Steps.{mostPlugLine}
+use Rattle.texts.proofs.Writing.{then-wrote, room-after, room-behind, wrote-as, both-fit}
 use Rattle.printing.proofs.Texts.{few-count, round-refused, round-accepted}
 use Rattle.printing.proofs.write_round_text.Statement.{statement}
 use Rattle.printing.proofs.write_round_text.Tie as tie

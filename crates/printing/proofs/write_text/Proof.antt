@@ -8,7 +8,7 @@ use lib.ListN.{length}
 use lib.Seq.{length-take-le}
 use Rattle.rounds.specs.Refusals.{mostInput}
 use Rattle.printing.specs.Steps.{roundText}
-use Rattle.printing.proofs.Writing.{wrote-as}
+use Rattle.texts.proofs.Writing.{wrote-as}
 use Rattle.printing.proofs.Texts.{text-long, text-refused, text-read, Taken, was-refused, was-read}
 use Rattle.printing.proofs.write_text.Statement.{statement}
 use Rattle.printing.proofs.write_text.Tie as tie

@@ -6,7 +6,8 @@ use Rattle.turns.specs.Keys.{pointOf}
 use Rattle.rounds.specs.Boxes.{boxesOf}
 use Rattle.rounds.specs.declared.Box.{Box}
 use Rattle.rounds.proofs.Corners.{inside-by-corners, outside-by-corners}
-use Rattle.reasons.specs.Answers.{SupportSays, BalanceSays}
+use Rattle.supports.specs.Supports.{SupportSays}
+use Rattle.balances.specs.Balances.{BalanceSays}
 use borrow.Author.Needs.{needs}
 use Rattle.verdicts.proofs.judge.Statement.{statement}
 use Rattle.verdicts.proofs.judge.Tie as tie

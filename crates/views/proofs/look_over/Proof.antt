@@ -12,12 +12,14 @@ use Rattle.rounds.specs.Boxes.{boxesOf, cornerOf}
 use Rattle.rounds.specs.declared.Box.{Box}
 use Rattle.rounds.proofs.Rows.{boxes-length}
 use Rattle.cones.specs.declared.Cone.{Cone}
-use Rattle.views.specs.Views.{LooksAt, nthBox, namesIn, cornersIn, cornersBy}
-use Rattle.views.specs.declared.CornerSet.{CornerSet}
-use Rattle.views.specs.declared.CornerSet.the-variants.{One, Four}
-use Rattle.views.specs.declared.Met.{Met}
+use Rattle.passes.specs.Passes.{nthBox, namesIn, cornersIn, cornersBy}
+use Rattle.views.specs.Views.{LooksAt}
+use Rattle.passes.specs.declared.CornerSet.{CornerSet}
+use Rattle.passes.specs.declared.CornerSet.the-variants.{One, Four}
+use Rattle.passes.specs.declared.Met.{Met}
 use Rattle.views.specs.declared.View.{View}
-use Rattle.views.proofs.Viewing.{looks-none, looks-corner, viewed-then, viewed-known, corner-of-nth, looks-next, looks-box, looks-none-of, looks-all, looks-passed, looks-start, looks-around}
+use Rattle.passes.proofs.Passing.{corner-of-nth}
+use Rattle.views.proofs.Viewing.{looks-none, looks-corner, viewed-then, viewed-known, looks-next, looks-box, looks-none-of, looks-all, looks-passed, looks-start, looks-around}
 use borrow.Author.Needs.{needs}
 use Rattle.views.proofs.look_over.Statement.{statement}
 use Rattle.views.proofs.look_over.Tie as tie

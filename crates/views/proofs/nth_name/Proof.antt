@@ -4,8 +4,9 @@ use Prim.Native.Nat.{ℕ, _<_}
 use native.Mathlib.Omega.{arith}
 use lib.ListN.{length}
 use Rattle.rounds.specs.declared.Corner.{Corner}
-use Rattle.views.specs.Views.{namesIn, nthName}
-use Rattle.views.specs.declared.CornerSet.the-variants.{One}
+use Rattle.passes.specs.Passes.{namesIn}
+use Rattle.views.specs.Views.{nthName}
+use Rattle.passes.specs.declared.CornerSet.the-variants.{One}
 use borrow.Author.Needs.{needs}
 use Rattle.views.proofs.nth_name.Statement.{statement}
 use Rattle.views.proofs.nth_name.Tie as tie

@@ -2,7 +2,7 @@
 use mathlib.Core.Path.{_≡_, sym, ap}
 use native.Mathlib.Omega.{arith}
 use Rattle.views.specs.Views.{nthName}
-use Rattle.views.specs.declared.CornerSet.the-variants.{Four}
+use Rattle.passes.specs.declared.CornerSet.the-variants.{Four}
 use borrow.Author.Needs.{needs}
 use Rattle.views.proofs.nth_of_four.Statement.{statement}
 use Rattle.views.proofs.nth_of_four.Tie as tie

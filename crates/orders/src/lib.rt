@@ -1,0 +1,1 @@
+// Numbers in order, for sorts: definitions (specs/) and proofs (proofs/), no code.

@@ -1,2 +1,0 @@
--- Answering: what a cone and a view tell each driver.
-pub mod Answering

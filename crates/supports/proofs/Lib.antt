@@ -1,0 +1,2 @@
+-- Answering: what a cone tells the first driver.
+pub mod Answering
