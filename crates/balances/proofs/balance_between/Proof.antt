@@ -1,4 +1,4 @@
--- `reasons::balance_between` meets its contract: neither dot product is less than 0. Assumes nothing.
+-- `balances::balance_between` meets its contract: neither dot product is less than 0. Assumes nothing.
 use Rattle.balances.proofs.Answering.{past-a, past-b, between-among}
 use borrow.Author.Needs.{needs}
 use Rattle.balances.proofs.balance_between.Statement.{statement}

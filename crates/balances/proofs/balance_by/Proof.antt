@@ -1,4 +1,4 @@
--- `reasons::balance_by` meets its contract: a corner that is the plug balances alone, and else the cone answers. Assumes nothing.
+-- `balances::balance_by` meets its contract: a corner that is the plug balances alone, and else the cone answers. Assumes nothing.
 use mathlib.Core.Path.{subst}
 use Rattle.passes.specs.Passes.{MetSays}
 use Rattle.balances.proofs.Answering.{plug-holds}

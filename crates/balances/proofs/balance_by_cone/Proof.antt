@@ -1,4 +1,4 @@
--- `reasons::balance_by_cone` meets its contract: the cone is the case that is matched. Assumes nothing.
+-- `balances::balance_by_cone` meets its contract: the cone is the case that is matched. Assumes nothing.
 use mathlib.Core.Path.{_≡_, sym, subst}
 use Rattle.plane.specs.Points.{Point}
 use Rattle.turns.specs.Keys.{pointOf}

@@ -1,4 +1,4 @@
--- `reasons::balance_in_triangle` meets its contract: none of the three areas is less than 0. Assumes nothing.
+-- `balances::balance_in_triangle` meets its contract: none of the three areas is less than 0. Assumes nothing.
 use Rattle.integers.proofs.Order.{<→≤}
 use Rattle.balances.proofs.Answering.{triangle-among}
 use borrow.Author.Needs.{needs}

@@ -1,4 +1,4 @@
--- `reasons::balance_of` meets its contract: three that balance among some corners balance, and the four corners of every box are all corners. Assumes nothing.
+-- `balances::balance_of` meets its contract: three that balance among some corners balance, and the four corners of every box are all corners. Assumes nothing.
 use mathlib.Core.Path.{subst}
 use mathlib.Core.List.{List, _++_}
 use Rattle.plane.specs.Points.{Point}

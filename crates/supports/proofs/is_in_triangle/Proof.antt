@@ -1,4 +1,4 @@
--- `reasons::is_in_triangle` meets its contract: three corners that wind round the plug. Assumes nothing.
+-- `supports::is_in_triangle` meets its contract: three corners that wind round the plug. Assumes nothing.
 use mathlib.Core.Path.{_≡_, refl, sym, _∙_, subst}
 use mathlib.Core.Bool.{Bool, true, false, _&&_, true≢false}
 use mathlib.Core.List.{[], _∷_}

@@ -1,4 +1,4 @@
--- `reasons::square_to` meets its contract: both parts are read back as they are. Assumes nothing.
+-- `supports::square_to` meets its contract: both parts are read back as they are. Assumes nothing.
 use mathlib.Core.Path.{_∙_, ap₂}
 use native.Mathlib.Omega.{arith}
 use mir.Syntax.{w32}

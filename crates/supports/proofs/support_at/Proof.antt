@@ -1,4 +1,4 @@
--- `reasons::support_at` meets its contract: three corners round the plug answer, or the cone does. Assumes nothing.
+-- `supports::support_at` meets its contract: three corners round the plug answer, or the cone does. Assumes nothing.
 use mathlib.Core.Path.{subst}
 use Rattle.turns.specs.Keys.{pointOf}
 use Rattle.rounds.specs.Boxes.{boxesOf, cornersOf}

@@ -1,4 +1,4 @@
--- `reasons::support_by` meets its contract: the cone is the case that is matched. Assumes nothing.
+-- `supports::support_by` meets its contract: the cone is the case that is matched. Assumes nothing.
 use mathlib.Core.Path.{_≡_, refl, sym, ap, subst, subst₂}
 use Rattle.plane.specs.Points.{Point}
 use Rattle.turns.specs.Keys.{pointOf}

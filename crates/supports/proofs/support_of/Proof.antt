@@ -1,4 +1,4 @@
--- `reasons::support_of` meets its contract: the first corner that gives a direction, or none does. Assumes nothing.
+-- `supports::support_of` meets its contract: the first corner that gives a direction, or none does. Assumes nothing.
 use mathlib.Core.Path.{subst}
 use mathlib.Core.List.{List}
 use Rattle.plane.specs.Points.{Point}
