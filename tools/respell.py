@@ -45,13 +45,27 @@ def turn_edits(top, table):
                 f.write("\n".join(lines))
 
 
+def sorted_files(top):
+    """The files of proofs that walk a function's code, and the others."""
+    walks, others = [], []
+    for folder, dirs, files in os.walk(os.path.join(top, "crates")):
+        dirs[:] = sorted(d for d in dirs if d != "out")
+        for name in sorted(files):
+            path = os.path.relpath(os.path.join(folder, name), top)
+            if name.endswith((".antt", ".rt")):
+                (walks if re.search(r"/proofs/.+/", path) else others).append(path)
+    return walks, others
+
+
 def main():
     top = sys.argv[1] if len(sys.argv) > 1 else os.path.dirname(HERE)
     snake = os.path.join(kit(), "port", "notes", "2026-11-18-names-are-in-snake-case", "snake.py")
     with open(TABLE, encoding="utf-8") as f:
         table = dict(row.rstrip("\n").split("\t") for row in f)
-    for kinds, places in (("antt,rt", ["crates"]), ("md", ["docs/PROOFS.md"])):
-        subprocess.run([sys.executable, snake, "--table", TABLE, "--only", kinds, "--skip-behind", "c,s", *places], cwd=top, check=True, stdout=subprocess.DEVNULL)
+    walks, others = sorted_files(top)
+    # In a proof that walks the code the names behind `c.` and `s.` are the kit's.
+    for kinds, places, more in (("antt,rt", others, []), ("antt", walks, ["--skip-behind", "c,s"]), ("md", ["docs/PROOFS.md"], [])):
+        subprocess.run([sys.executable, snake, "--table", TABLE, "--only", kinds, *more, *places], cwd=top, check=True, stdout=subprocess.DEVNULL)
     turn_edits(top, table)
 
 

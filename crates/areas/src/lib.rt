@@ -1,5 +1,7 @@
 // The outer polygon and the four corner polygons of a box list, in a lent buffer: east and north per vertex, then
 // zeros. specs/Areas.antt says what each public call promises.
+#![tactic(auto)]
+
 ghost use Rattle.std.specs.Prelude.{◌≤◌, length};
 ghost use Rattle.rounds.specs.Boxes.{BoxList};
 ghost use Rattle.listings.specs.Listings.{needed};
@@ -10,14 +12,14 @@ use polygons::VertexCounts;
 use rounds::{Checked, Refusal};
 
 // What the call for the outer polygon answers: how many vertices it has.
-#[derive(Drop)]
+#[derive(Clone, Copy)]
 pub enum OuterReply {
     Vertices(usize),
     Refused(Refusal),
 }
 
 // What the call for the corner polygons answers.
-#[derive(Drop)]
+#[derive(Clone, Copy)]
 pub enum CornersReply {
     Vertices(VertexCounts),
     Refused(Refusal),

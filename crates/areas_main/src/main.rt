@@ -2,6 +2,8 @@
 //
 // A case is: how many numbers are new at the front of the box list, those numbers, how many of the list are lent, and
 // how many of each call's buffer. oracle/write_cases.py writes `stdin`, and `stdout` from docs/SCOPE.md.
+#![tactic(auto)]
+
 use areas::{CornersReply, OuterReply};
 
 // What stands in a buffer before a call.

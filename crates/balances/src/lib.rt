@@ -1,5 +1,7 @@
 // What the corners of boxes tell the second driver of a plug, and the entries that show it, by how they are seen from
 // the plug (crate views).
+#![tactic(auto)]
+
 ghost use Rattle.std.specs.Prelude.{◌≡◌};
 ghost use Rattle.turns.specs.Keys.{Key, point_of};
 ghost use Rattle.rounds.specs.Boxes.{BoxList, boxes_of};
@@ -14,7 +16,7 @@ use rounds::{Corner, Entry};
 use views::View;
 
 // What some points tell the second driver: a direction has them all strictly behind the plug; or three entries balance.
-#[derive(Drop)]
+#[derive(Clone, Copy)]
 pub enum Balance {
     Separated,
     Reason(Entry, Entry, Entry),

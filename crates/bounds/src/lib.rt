@@ -1,4 +1,6 @@
 // Whether a coordinate and a box's edges are in the span, and a box's edges in order.
+#![tactic(auto)]
+
 ghost use Rattle.std.specs.Prelude.{◌≡◌};
 ghost use Rattle.rounds.specs.Refusals.{beyond, edge_beyond, edges_reversed};
 

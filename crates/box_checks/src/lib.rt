@@ -1,4 +1,6 @@
 // The checks of a box list: causes 1 to 5 (docs/SCOPE.md 6.2).
+#![tactic(auto)]
+
 ghost use Rattle.std.specs.Prelude.{◌≡◌};
 ghost use Rattle.rounds.specs.Refusals.{fault_of, box_fault, box_list_fault};
 

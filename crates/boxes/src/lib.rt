@@ -1,4 +1,6 @@
 // A box of a flat list, by its place.
+#![tactic(auto)]
+
 ghost use Rattle.std.specs.Prelude.{◌≡◌, ◌*◌, ◌/◌, ◌<◌, length};
 ghost use Rattle.rounds.specs.Boxes.{box_at};
 

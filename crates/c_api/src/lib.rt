@@ -1,6 +1,8 @@
 // The public calls for C: each answer is a struct of numbers, returned by value. No call has a `requires`. A call's
 // promise is that of the call it wraps, of the answer that the struct means (crate c_answers); and a verdict's struct
 // is that of the verdict which the wrapped call gives, reasons included. include/feltloquat.h says the same for C.
+#![tactic(auto)]
+
 ghost use Rattle.std.specs.Prelude.{◌≡◌};
 ghost use Rattle.plane.specs.Points.{point};
 ghost use Rattle.areas.specs.Areas.{OuterPromise, CornersPromise};

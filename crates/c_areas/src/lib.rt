@@ -1,5 +1,7 @@
 // The replies of the polygon calls as structs of numbers, for C: each case is given as a struct, and each struct means
 // a case (specs/). include/feltloquat.h says the same for C.
+#![tactic(auto)]
+
 ghost use Rattle.std.specs.Prelude.{◌≡◌};
 ghost use Rattle.c_areas.specs.Areas.{outer_struct, corners_struct};
 
@@ -7,7 +9,7 @@ use areas::{CornersReply, OuterReply};
 
 // The answer of feltloquat_outer_polygon.
 #[repr(C)]
-#[derive(Drop)]
+#[derive(Clone, Copy)]
 pub struct OuterAnswer {
     pub refused: u32,
     pub place: usize,
@@ -16,7 +18,7 @@ pub struct OuterAnswer {
 
 // The answer of feltloquat_corner_polygons.
 #[repr(C)]
-#[derive(Drop)]
+#[derive(Clone, Copy)]
 pub struct CornersAnswer {
     pub refused: u32,
     pub place: usize,

@@ -1,5 +1,7 @@
 // The replies of the reader and the writer as structs of numbers, for C: each case is given as a struct, and each
 // struct means a case (specs/). include/feltloquat.h says the same for C.
+#![tactic(auto)]
+
 ghost use Rattle.std.specs.Prelude.{◌≡◌};
 ghost use Rattle.c_files.specs.Files.{read_struct, write_struct};
 
@@ -7,7 +9,7 @@ use formats::{Reading, Writing};
 
 // The answer of feltloquat_read_round.
 #[repr(C)]
-#[derive(Drop)]
+#[derive(Clone, Copy)]
 pub struct ReadAnswer {
     pub refused: u32,
     pub place: usize,
@@ -17,7 +19,7 @@ pub struct ReadAnswer {
 
 // The answer of feltloquat_write_round.
 #[repr(C)]
-#[derive(Drop)]
+#[derive(Clone, Copy)]
 pub struct WriteAnswer {
     pub refused: u32,
     pub place: usize,

@@ -1,5 +1,7 @@
 // Verdicts and words as structs of numbers, for C: each case is given as a struct, and each struct means a case
 // (specs/). include/feltloquat.h says the same for C.
+#![tactic(auto)]
+
 ghost use Rattle.std.specs.Prelude.{◌≡◌};
 ghost use Rattle.c_verdicts.specs.Verdicts.{corner_number, entry_struct, plain_struct, reasoned_struct};
 ghost use Rattle.c_verdicts.specs.Verdicts.{verdict_struct, word_number, word_struct};
@@ -9,7 +11,7 @@ use verdicts::{Verdict, WordReply};
 
 // An entry of the second driver's reason.
 #[repr(C)]
-#[derive(Drop)]
+#[derive(Clone, Copy)]
 pub struct EntryAnswer {
     pub number: usize,
     pub corner: u32,
@@ -18,7 +20,7 @@ pub struct EntryAnswer {
 
 // The answer of feltloquat_verdict.
 #[repr(C)]
-#[derive(Drop)]
+#[derive(Clone, Copy)]
 pub struct VerdictAnswer {
     pub refused: u32,
     pub place: usize,
@@ -33,7 +35,7 @@ pub struct VerdictAnswer {
 
 // The answer of feltloquat_word.
 #[repr(C)]
-#[derive(Drop)]
+#[derive(Clone, Copy)]
 pub struct WordAnswer {
     pub refused: u32,
     pub place: usize,

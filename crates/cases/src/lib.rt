@@ -1,6 +1,8 @@
 // What the drivers share: a case's numbers from standard input, and what is printed of a reply.
 //
 // On standard input a count is four bytes, high byte first, and a number is the count that is its two's complement.
+#![tactic(auto)]
+
 ghost use Rattle.std.specs.Prelude.{◌+◌, ◌<◌, ◌≤◌, length};
 ghost use Rattle.io.specs.Counts.{IsPrefixLen};
 ghost use Rattle.cases.specs.Fronts.{Front};

@@ -1,4 +1,6 @@
 // The causes of the table of refusals (docs/SCOPE.md 6.2) by their numbers.
+#![tactic(auto)]
+
 ghost use Rattle.std.specs.Prelude.{◌≡◌};
 ghost use Rattle.rounds.specs.Refusals.{number_of};
 

@@ -1,5 +1,7 @@
 // The upper chain of keys in order, by Andrew's monotone chain. A key stands for a point of the span, and the order of
 // keys is that of points (crate turns).
+#![tactic(auto)]
+
 ghost use Rattle.std.specs.Prelude.{◌+◌, ◌≤◌, ◌<◌, length};
 ghost use Rattle.turns.specs.Keys.{Key, AllKeys};
 ghost use Rattle.orders.specs.Order.{get, Sorted};

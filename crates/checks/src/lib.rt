@@ -1,8 +1,10 @@
 // The checks of a plug, a plug list and a lent buffer's length, and of what the public calls are lent: causes 1 to 7 of
 // docs/SCOPE.md 6.2.
+#![tactic(auto)]
+
 ghost use Rattle.std.specs.Prelude.{◌≡◌};
 ghost use Rattle.plane.specs.Points.{point};
-ghost use Rattle.rounds.specs.Refusals.{fault_of, ◌orElse◌};
+ghost use Rattle.rounds.specs.Refusals.{fault_of, ◌or_else◌};
 ghost use Rattle.rounds.specs.Refusals.{plug_fault, plug_list_fault, buffer_fault, area_fault, verdict_fault};
 
 use rounds::{Cause, Checked, Refusal};

@@ -1,5 +1,7 @@
 // The cone that some points span, as seen from a plug, widened point by point. The points are corners of boxes, as
 // keys; those that a cone holds keep their box number and corner name.
+#![tactic(auto)]
+
 ghost use Rattle.std.specs.Prelude.{◌≡◌};
 ghost use Rattle.turns.specs.Keys.{Key};
 ghost use Rattle.turns.specs.declared.Turn.TheVariants.{Straight};
@@ -9,7 +11,7 @@ use rounds::Corner;
 use turns::Turn;
 
 // A corner of a box of the list: its key, the box's number from 1, and the corner's name.
-#[derive(Drop)]
+#[derive(Clone, Copy)]
 pub struct CornerKey {
     pub key: u32,
     pub number: u32,
@@ -20,7 +22,7 @@ pub struct CornerKey {
 // on the line through two on opposite sides of the plug; from the ray through one to the ray through another, left of
 // it by less than half a turn; left of the line through two on opposite sides, or on it; or the plug is strictly
 // inside, and in the triangle of three.
-#[derive(Drop)]
+#[derive(Clone, Copy)]
 pub enum Cone {
     Nothing,
     Ray(CornerKey),

@@ -1,5 +1,7 @@
 // The keys of boxes' corners as lists: of one name, of two, and those that the outer polygon's upper and lower chain
 // are made of.
+#![tactic(auto)]
+
 ghost use Rattle.std.specs.Prelude.{◌++◌, ◌+◌, ◌/◌, ◌≤◌, length};
 ghost use Rattle.turns.specs.Keys.{AllKeys};
 ghost use Rattle.turns.specs.Reflection.{reflected};

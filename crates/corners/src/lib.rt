@@ -1,4 +1,6 @@
 // The corners of a list's boxes, as keys.
+#![tactic(auto)]
+
 ghost use Rattle.std.specs.Prelude.{◌≡◌, ◌/◌, ◌<◌, length};
 ghost use Rattle.turns.specs.Keys.{Key, KeyOf, point_of};
 ghost use Rattle.rounds.specs.Boxes.{boxes_of, corner_of, BoxList};

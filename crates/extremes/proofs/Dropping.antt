@@ -97,10 +97,10 @@ module _ {old new : List ℕ} {n ne nw sw se west east south north : ℕ} (c : F
 
   around : (x : ℕ) → InRectangle x west east south north → Inner (get new) n x
   around x i =
-      let p = corner ne c.north-east (λ j. omega (arith, j.past_east, b.east_ne)) in
-      let q = corner nw c.north-west (λ j. omega (arith, j.past_west, b.west_nw)) in
-      let r = corner sw c.south-west (λ j. omega (arith, j.past_west, b.west_sw)) in
-      let s = corner se c.south-east (λ j. omega (arith, j.past_east, b.east_se)) in
+      let p = corner ne c.north_east (λ j. omega (arith, j.past_east, b.east_ne)) in
+      let q = corner nw c.north_west (λ j. omega (arith, j.past_west, b.west_nw)) in
+      let r = corner sw c.south_west (λ j. omega (arith, j.past_west, b.west_sw)) in
+      let s = corner se c.south_east (λ j. omega (arith, j.past_east, b.east_se)) in
       record {
         north_east = (p.0, p.1, at p.2 (omega (arith, b.east_ne, i.past_east)), up p.2 (omega (arith, b.north_ne, i.past_north)));
         north_west = (q.0, q.1, back q.2 (omega (arith, b.west_nw, i.past_west)), up q.2 (omega (arith, b.north_nw, i.past_north)));

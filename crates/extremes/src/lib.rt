@@ -1,5 +1,7 @@
 // The least key of a list and the greatest; and the keys that are no vertices, since others lie in all four quadrants
 // round them, dropped before the rest are sorted.
+#![tactic(auto)]
+
 ghost use Rattle.std.specs.Prelude.{◌≡◌, ◌-◌, ◌<◌, ◌≤◌, true, ◌⊎◌, length};
 ghost use Rattle.turns.specs.Keys.{AllKeys};
 ghost use Rattle.orders.specs.Order.{get};
@@ -16,7 +18,7 @@ const SAMPLE: usize = 24;
 const FILLED: usize = 2;
 
 // Four keys, each far out in one of the four directions between east and north.
-#[derive(Drop)]
+#[derive(Clone, Copy)]
 struct Far {
     ne: u32,
     nw: u32,
@@ -25,7 +27,7 @@ struct Far {
 }
 
 // A rectangle, by the parts of keys: from west to before east, and from south to before north.
-#[derive(Drop)]
+#[derive(Clone, Copy)]
 struct Rectangle {
     west: u32,
     east: u32,
@@ -193,7 +195,7 @@ pub fn drop_inner(keys: &mut [u32]) -> usize
 }
 
 // The least and the greatest of some keys.
-#[derive(Drop)]
+#[derive(Clone, Copy)]
 pub struct Ends {
     pub first: u32,
     pub last: u32,

@@ -6,7 +6,7 @@ use mathlib.Core.List.{List, []}
 use Prim.Native.Nat.{ℕ, zero, suc, ◌-◌, ◌+◌}
 use native.Mathlib.Omega.{arith}
 use lib.ListN.{length}
-use Rattle.rounds.specs.Refusals.{Fault, none, fault, ◌orElse◌}
+use Rattle.rounds.specs.Refusals.{Fault, none, fault, ◌or_else◌}
 use Rattle.formats.specs.Format.{Kind, box_kind, plug_kind, note_kind, end_kind, unknown_kind, kind_at, next_at, mark_length}
 use Rattle.formats.specs.Content.{Content, stops_before, kind_fault, form_fault, and_then, plugged_by, read_from}
 use Rattle.formats.proofs.Scan.{scan, clean}

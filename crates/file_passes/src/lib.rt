@@ -1,5 +1,7 @@
 // The passes of the reader over a round file (docs/SCOPE.md 5.3, 6.4), each by `file_records::next_record`: one judges
 // the form and counts; one reads the boxes of a well-formed file; one reads some of its plugs, from an offset on.
+#![tactic(auto)]
+
 ghost use Rattle.std.specs.Prelude.{◌≡◌, length};
 ghost use Rattle.formats.specs.Content.{content_of};
 ghost use Rattle.file_passes.specs.Steps.{judgement, BoxRoom, BoxesRead, PlugRoom, PlugsRead};

@@ -1,5 +1,7 @@
 // The records of the round file (docs/SCOPE.md 5.1), one at a time: what stands at an offset, and its numbers; a box,
 // a plug and a mark written at an offset. Crate `formats` says what a record is.
+#![tactic(auto)]
+
 ghost use Rattle.std.specs.Prelude.{◌+◌, ◌≤◌, ◌<◌, false, ◌≡◌, length};
 ghost use Rattle.std.specs.Int.{w32};
 ghost use Rattle.std.proofs.Common.{of_z, to_z};
@@ -56,7 +58,7 @@ const SIGN_BIT: u32 = 2147483648;
 const ALL_BITS: u32 = 4294967295;
 
 // What stands at an offset of a file: a record, with the offset after it, or what the file is turned back by.
-#[derive(Drop)]
+#[derive(Clone, Copy)]
 pub enum Record {
     Box(usize),
     Plug(usize),

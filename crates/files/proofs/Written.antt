@@ -6,7 +6,7 @@ use native.Mathlib.Omega.{arith}
 use lib.IntN.{ℤ}
 use lib.ListN.{length, length-append}
 use Rattle.rounds.specs.Boxes.{boxes_of, plugs_of}
-use Rattle.rounds.specs.Refusals.{Fault, none, refusal_fault, ◌orElse◌, box_list_fault, plug_list_fault, buffer_fault, write_fault}
+use Rattle.rounds.specs.Refusals.{Fault, none, refusal_fault, ◌or_else◌, box_list_fault, plug_list_fault, buffer_fault, write_fault}
 use Rattle.rounds.specs.declared.Refusal.{Refusal}
 use Rattle.formats.specs.Format.{end_mark, box_length, plug_length, mark_bytes, box_record, plug_record, end_record, file_of}
 use Rattle.formats.specs.Promises.{byte_count, writer_fault, RoundWritten}

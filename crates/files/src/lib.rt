@@ -3,6 +3,8 @@
 // The reader goes through a file twice, by the passes of crate `file_passes`: it judges the form and counts, changing
 // nothing; then the buffers are measured; then it reads boxes and plugs into them. The writer checks, measures and
 // writes. What a file is and what both calls promise is said in crate `formats`.
+#![tactic(auto)]
+
 ghost use Rattle.std.specs.Prelude.{◌+◌, ◌*◌, ◌/◌, ◌≤◌, ◌≡◌, length};
 ghost use mathlib.Core.List.{flat_map};
 ghost use Rattle.rounds.specs.Boxes.{boxes_of, plugs_of};

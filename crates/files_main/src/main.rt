@@ -4,6 +4,8 @@
 // A case is: how many bytes are new at the front of the file, those bytes, how many of the file are lent, and how
 // many of the buffers of boxes, of plugs and of bytes written. oracle/write_cases.py writes `stdin`, and `stdout`
 // from docs/SCOPE.md.
+#![tactic(auto)]
+
 use formats::{Reading, Writing};
 
 // What stands in a buffer before a call.

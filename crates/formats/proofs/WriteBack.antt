@@ -93,7 +93,7 @@ module _ (file : List ℕ) (bytes : AllBytes file) where
 -- what stands from an offset on is what the writer gives for what it holds, and after a plug there is no box
 record SameBytes (file : List ℕ) (at : ℕ) (plugged : Bool) (held : Content) : Type 0 where
   is : drop at file ≡ file_of held.boxes held.plugs
-  no-box : plugged ≡ true → held.boxes ≡ []
+  no_box_lem : plugged ≡ true → held.boxes ≡ []
 
 impossible : {A : Type 0} {c : Cause} {p : ℕ} → fault c p ≡ none → A
 impossible e = let z : ◌≡◌ {A = ℕ} 0 1 = cc in absurd (omega arith)
@@ -118,13 +118,13 @@ same_then none box_kind file at plugged rest b ef ek ih e z =
     let ps = flat_map plug_record rest.plugs in
     record {
       is = box_first file b at ek w.1 ∙ ap (λ l. x ++ l) s.is ∙ sym (append_assoc x (bs ++ ps) end_record) ∙ ap (λ l. l ++ end_record) (sym (append_assoc x bs ps));
-      no-box = not_plugged file at plugged c.1;
+      no_box_lem = not_plugged file at plugged c.1;
     }
 same_then none plug_kind file at plugged rest b ef ek ih e z =
     let c = clean file at plugged ef ek in
     let w = ends_within plug_kind file at plugged c.0 c.1 in
     let s = ih e z in
-    let nb = s.no-box refl in
+    let nb = s.no_box_lem refl in
     let y = plug_record (file_plug_at file (at + mark_length)) in
     record {
       is =
@@ -132,12 +132,12 @@ same_then none plug_kind file at plugged rest b ef ek ih e z =
           ∙ ap (λ l. y ++ l) (s.is ∙ ap (λ bs. file_of bs rest.plugs) nb)
           ∙ sym (append_assoc y (flat_map plug_record rest.plugs) end_record)
           ∙ ap (λ bs. file_of bs (file_plug_at file (at + mark_length) ∷ rest.plugs)) (sym nb);
-      no-box = λ t. nb;
+      no_box_lem = λ t. nb;
     }
 same_then none note_kind file at plugged rest b ef ek ih e z = absurd (omega arith)
 same_then none end_kind file at plugged rest b ef ek ih e z =
     let c = clean file at plugged ef ek in
-    record { is = end_first file b at ek c.0 (ltb-false _ _ (when_none (ltb (at + mark_length) (length file)) Cause.ByteAfterEnd (at + mark_length) c.1)); no-box = λ t. refl }
+    record { is = end_first file b at ek c.0 (ltb-false _ _ (when_none (ltb (at + mark_length) (length file)) Cause.ByteAfterEnd (at + mark_length) c.1)); no_box_lem = λ t. refl }
 same_then none unknown_kind file at plugged rest b ef ek ih e z = impossible (clean file at plugged ef ek).1
 
 same_from : (records : ℕ) (file : List ℕ) (at : ℕ) (plugged : Bool) → AllBytes file → (read_from records file at plugged).fault ≡ none → (read_from records file at plugged).notes ≡ 0

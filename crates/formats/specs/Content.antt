@@ -3,7 +3,7 @@ use Rattle.std.specs.Prelude.{ℕ, suc, zero, ◌+◌, Bool, true, false, List, 
 use Rattle.plane.specs.Points.{Point}
 use Rattle.rounds.specs.declared.Box.{Box}
 use Rattle.rounds.specs.declared.Cause.TheVariants as Cause
-use Rattle.rounds.specs.Refusals.{Fault, none, fault, when, ◌orElse◌}
+use Rattle.rounds.specs.Refusals.{Fault, none, fault, when, ◌or_else◌}
 use Rattle.formats.specs.Format.{mark_length, Kind, box_kind, plug_kind, note_kind, end_kind, unknown_kind, kind_at, next_at, file_box_at, file_plug_at}
 
 -- 9 where the file stops before `next`: its place is the offset where the record begins, which is the file length where there is none

@@ -50,7 +50,7 @@ record Spare (q : ℕ → ℕ) (first last i w : ℕ) : Type 0 where
   most : w ≤ i
   but_first : Among q i first → w + 1 ≤ i
   but_last : Among q i last → w + 1 ≤ i
-  but-both : Among q i first → Among q i last → w + 2 ≤ i
+  but_both : Among q i first → Among q i last → w + 2 ≤ i
 
 -- what is among one more key is that key, or among those before
 sooner : (q : ℕ → ℕ) (i x : ℕ) (r : Among q (i + 1) x) → Dec (r.0 < i) → (x ≡ q i) ⊎ Among q i x
@@ -64,7 +64,7 @@ module _ (q : ℕ → ℕ) (first last i w : ℕ) (s : Spare q first last i w) w
         most = omega (arith, s.most);
         but_first = λ a. let z = s.but_first (older first f a) in omega arith;
         but_last = λ a. let z = s.but_last (older last l a) in omega arith;
-        but-both = λ a b. let z = s.but-both (older first f a) (older last l b) in omega arith;
+        but_both = λ a b. let z = s.but_both (older first f a) (older last l b) in omega arith;
       }
     where
       older : (x : ℕ) → (x ≡ q i → ⊥) → Among q (i + 1) x → Among q i x
@@ -76,7 +76,7 @@ module _ (q : ℕ → ℕ) (first last i w : ℕ) (s : Spare q first last i w) w
         most = omega (arith, s.most);
         but_first = λ a. omega (arith, s.most);
         but_last = λ a. omega (arith, s.most);
-        but-both = λ a b. both (sooner q i first a (dec_lt a.0 i)) (sooner q i last b (dec_lt b.0 i));
+        but_both = λ a b. both (sooner q i first a (dec_lt a.0 i)) (sooner q i last b (dec_lt b.0 i));
       }
     where
       both : (first ≡ q i) ⊎ Among q i first → (last ≡ q i) ⊎ Among q i last → w + 2 ≤ i + 1
@@ -121,7 +121,7 @@ splitting old mirror first last h =
             most = omega arith;
             but_first = λ a. absurd (omega (arith, a.1));
             but_last = λ a. absurd (omega (arith, a.1));
-            but-both = λ a b. absurd (omega (arith, a.1));
+            but_both = λ a b. absurd (omega (arith, a.1));
           };
       up = part_none (get old) _ (get old) _ _;
       down = part_none (get old) _ (get mirror) _ _;
@@ -198,7 +198,7 @@ module _ (old : List ℕ) (first last : ℕ) (keys mirror : List ℕ) (i u v : �
       let e : i ≡ length old = omega (arith, p.i_in) in
       let s = subst (λ j. Spare (get old) first last j (u + v)) e p.spare in
       record {
-        few = s.but-both n.first_in n.last_in;
+        few = s.but_both n.first_in n.last_in;
         above = subst (λ j. Part (get old) j (λ k. k) (get keys) u (Left first last) (NotLeft first last)) e p.up;
         below = subst (λ j. Part (get old) j reflected (get mirror) v (Right first last) (NotRight first last)) e p.down;
       }

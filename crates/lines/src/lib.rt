@@ -1,11 +1,13 @@
 // The side of a line that a point is on, where many points are tried against one line: what is the same for all of them
 // is worked out once. Points are keys (crate turns).
+#![tactic(auto)]
+
 ghost use Rattle.turns.specs.Keys.{Key};
 ghost use Rattle.lines.specs.Lines.{LineOf, Drawn, SideOf};
 
 // The line from one key's point to another's: how far it goes east and north, and what each of its points has in
 // common: east times the north part of its key, less north times the east part.
-#[derive(Drop)]
+#[derive(Clone, Copy)]
 pub struct Line {
     pub east: i64,
     pub north: i64,

@@ -1,4 +1,6 @@
 // Vertices in a lent buffer of numbers: east and north per vertex, and zeros after the last one.
+#![tactic(auto)]
+
 ghost use Rattle.std.specs.Prelude.{◌++◌, map, ◌≡◌, ◌-◌, ◌*◌, ◌≤◌, length, take, drop};
 ghost use Rattle.plane.specs.Members.{All};
 ghost use Rattle.turns.specs.Keys.{Key, point_of};

@@ -1,5 +1,7 @@
 // Where a plug lies with respect to a polygon whose vertices are keys: strictly within, on the line, or off.
 // A search of the fan from the first vertex: its steps grow with the logarithm of the vertex count.
+#![tactic(auto)]
+
 ghost use Rattle.turns.specs.Keys.{Key};
 ghost use Rattle.locations.specs.Places.{KeyPolygon, PlaceOf};
 ghost use Rattle.locations.specs.Search.{InFan, FanWedge, OfSegment};
@@ -8,7 +10,7 @@ use turns::{dot_product, signed_area};
 
 // Strictly within the hull of the points; on its line: in the hull, edge included, and not strictly within;
 // off: not in the hull.
-#[derive(Drop)]
+#[derive(Clone, Copy)]
 pub enum Place {
     Within,
     OnLine,

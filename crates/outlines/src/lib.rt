@@ -1,4 +1,6 @@
 // The outer polygon and the corner polygons of a box list, as the keys of their vertices, in lent scratch.
+#![tactic(auto)]
+
 ghost use Rattle.std.specs.Prelude.{◌≡◌, ◌+◌, ◌*◌, ◌/◌, ◌≤◌, ◌<◌, length};
 ghost use Rattle.rounds.specs.Boxes.{boxes_of, corners_of, all_corners, BoxList};
 ghost use Rattle.corner_lists.specs.ChainKeys.{PointEnds};
@@ -12,7 +14,7 @@ use rounds::Corner;
 pub const MOST_KEYS: usize = 2052;
 
 // How many vertices each of the five polygons of a round has. Their keys stand one behind another, in this order.
-#[derive(Drop)]
+#[derive(Clone, Copy)]
 pub struct RoundCounts {
     pub outer: usize,
     pub southwest: usize,
@@ -105,7 +107,7 @@ fn append_outline(
 }
 
 // How many vertices each of two polygons has.
-#[derive(Drop)]
+#[derive(Clone, Copy)]
 pub struct TwoCounts {
     pub first: usize,
     pub second: usize,

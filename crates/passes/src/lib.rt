@@ -1,5 +1,7 @@
 // Boxes whose corners leave the cone of the points so far as it is (crate cones), passed over one after another: in a
 // wedge or on a line that does not become wider.
+#![tactic(auto)]
+
 ghost use Rattle.std.specs.Prelude.{◌/◌, ◌≤◌, length};
 ghost use Rattle.turns.specs.Keys.{Key};
 ghost use Rattle.rounds.specs.Boxes.{BoxList, boxes_of};
@@ -10,14 +12,14 @@ use cones::{Cone, CornerKey};
 use rounds::Corner;
 
 // The corners of a box that are looked at: one of them, or all four.
-#[derive(Drop)]
+#[derive(Clone, Copy)]
 pub enum CornerSet {
     One(Corner),
     Four,
 }
 
 // Whether a point so far is the plug itself.
-#[derive(Drop)]
+#[derive(Clone, Copy)]
 pub enum Met {
     Nowhere,
     At(CornerKey),

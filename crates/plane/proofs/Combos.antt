@@ -21,9 +21,9 @@ use Rattle.plane.specs.Vectors.{Separated, along, total, weighted, Balanced}
 pub record Combo (vs : List Point) (x y t : ℤ) : Type 0 where
   pub weights : List ℕ
   pub one_each : length weights ≡ length vs
-  pub total-is : pos (total weights) ≡ t
-  pub east-is : weighted (λ v. v.east) weights vs ≡ x
-  pub north-is : weighted (λ v. v.north) weights vs ≡ y
+  pub total_is : pos (total weights) ≡ t
+  pub east_is : weighted (λ v. v.east) weights vs ≡ x
+  pub north_is : weighted (λ v. v.north) weights vs ≡ y
 
 -- ---- none, a multiple of a member, a sum
 
@@ -48,9 +48,9 @@ nothing {vs} =
     record {
       weights = zeros vs;
       one_each = zeros_length vs;
-      total-is = ap pos (zeros_total vs);
-      east-is = zeros_weighted (λ v. v.east) vs;
-      north-is = zeros_weighted (λ v. v.north) vs;
+      total_is = ap pos (zeros_total vs);
+      east_is = zeros_weighted (λ v. v.east) vs;
+      north_is = zeros_weighted (λ v. v.north) vs;
     }
 
 abbrev single : {v : Point} {vs : List Point} → ℕ → v ∈ vs → List ℕ
@@ -76,9 +76,9 @@ times (pos n) h m =
     record {
       weights = single n m;
       one_each = single_length n m;
-      total-is = ap pos (single_total n m);
-      east-is = single_weighted (λ v. v.east) n m;
-      north-is = single_weighted (λ v. v.north) n m;
+      total_is = ap pos (single_total n m);
+      east_is = single_weighted (λ v. v.east) n m;
+      north_is = single_weighted (λ v. v.north) n m;
     }
 times (negsuc n) h m = absurd h.le
 
@@ -112,9 +112,9 @@ pub ◌plus◌ : {vs : List Point} {x y t x' y' t' : ℤ} → Combo vs x y t →
     record {
       weights = add c.weights d.weights;
       one_each = add_length vs c.weights d.weights c.one_each d.one_each;
-      total-is = ap pos (add_total c.weights d.weights) ∙ sym (pos-+ℤ-pos _ _) ∙ ap₂ ◌+ℤ◌ c.total-is d.total-is;
-      east-is = add_weighted (λ v. v.east) vs c.weights d.weights ∙ ap₂ ◌+ℤ◌ c.east-is d.east-is;
-      north-is = add_weighted (λ v. v.north) vs c.weights d.weights ∙ ap₂ ◌+ℤ◌ c.north-is d.north-is;
+      total_is = ap pos (add_total c.weights d.weights) ∙ sym (pos-+ℤ-pos _ _) ∙ ap₂ ◌+ℤ◌ c.total_is d.total_is;
+      east_is = add_weighted (λ v. v.east) vs c.weights d.weights ∙ ap₂ ◌+ℤ◌ c.east_is d.east_is;
+      north_is = add_weighted (λ v. v.north) vs c.weights d.weights ∙ ap₂ ◌+ℤ◌ c.north_is d.north_is;
     }
 
 -- ---- a combination that is zero
@@ -124,9 +124,9 @@ balanced c ex ey ht =
     record {
       weights = c.weights;
       one_each = c.one_each;
-      some_weight = ltb→lt 0 _ (subst (λ t. pos 0 <ℤ t) (sym c.total-is) ht).lt;
-      east_sum = c.east-is ∙ ex;
-      north_sum = c.north-is ∙ ey;
+      some_weight = ltb→lt 0 _ (subst (λ t. pos 0 <ℤ t) (sym c.total_is) ht).lt;
+      east_sum = c.east_is ∙ ex;
+      north_sum = c.north_is ∙ ey;
     }
 
 -- two, and three, members that balance

@@ -16,6 +16,7 @@ rest (h & k) = k
 pub all_at : {A : Type 0} {P : A → Type 0} {x : A} {l : List A} → All P l → x ∈ l → P x
 all_at {P = P} (h & k) (here e) = subst P (sym e) h
 all_at (h & k) (there m) = all_at k m
+all_at {A = A} {P = P} none x4 = elim x4 [ ]
 
 pub all_of : {A : Type 0} {P : A → Type 0} (l : List A) → ((x : A) → x ∈ l → P x) → All P l
 all_of [] f = none
@@ -29,7 +30,7 @@ pub all_both : {A : Type 0} {P Q R : A → Type 0} {l : List A} → ((x : A) →
 all_both f none k = none
 all_both f (◌&◌ {x = x} h hs) (k & ks) = f x h k & all_both f hs ks
 
-pub all_map : {A B : Type 0} {P : B → Type 0} {l : List A} (f : A → B) → All (λ x. P (f x)) l → All P (map f l)
+pub all_map : {A B : Type 0} {P : B → Type 0} (f : A → B) {l : List A} → All (λ x. P (f x)) l → All P (map f l)
 all_map f none = none
 all_map f (h & k) = h & all_map f k
 
@@ -69,6 +70,7 @@ in_append (y ∷ l) m (there h) = ⊎_elim (λ k. inl (there k)) inr (in_append 
 pub in_left : {A : Type 0} {x : A} (l m : List A) → x ∈ l → x ∈ (l ++ m)
 in_left (y ∷ l) m (here e) = here e
 in_left (y ∷ l) m (there h) = there (in_left l m h)
+in_left {A = A} [] m x'' = elim x'' [ ]
 
 pub in_right : {A : Type 0} {x : A} (l m : List A) → x ∈ m → x ∈ (l ++ m)
 in_right [] m h = h

@@ -50,6 +50,7 @@ others_without p (r ∷ qs) q m ne = go (same_point r p) m (λ k. others_without
     go (yes e) (there m) k = k m
     go (no e) (here f) k = here f
     go (no e) (there m) k = there (k m)
+others_without p [] q m ne = elim m [ ]
 
 -- the definition asks of every list of other points; it is the same to ask of the list of all of them
 pub extreme_iff : (qs : List Point) (p : Point) → Extreme qs p ↔ ((p ∈ qs) × (Balanced (map (from 1 p) (without p qs)) → ⊥))

@@ -95,6 +95,7 @@ behind_vertex {qs = r ∷ qs} {vs} P a b ne q k = go (topmost a b r qs)
 
     go : (m : Point) × (m ∈ (r ∷ qs)) × All (Before a b m) (r ∷ qs) → (m : Point) × (m ∈ vs) × (along a b q ≤ℤ along a b m)
     go t = (t.0, P.every_extreme t.0 (top_extreme a b t.0 (length_pos a b ne) t.1 t.2), at_most t.0 (all_at t.2 k))
+behind_vertex {qs = []} {vs = vs} P a b ne q k = elim k [ ]
 
 -- ---- one vertex, and two
 
@@ -104,6 +105,7 @@ behind_one {v = v} P a b ne q k = go (behind_vertex P a b ne q k)
   where
     go : (m : Point) × (m ∈ (v ∷ [])) × (along a b q ≤ℤ along a b m) → along a b q ≤ℤ along a b v
     go (m, here e, h) = subst (λ (r : Point). along a b q ≤ℤ along a b r) e h
+    go (m , there x5 , h) = elim x5 [ ]
 
 one_vertex : {qs : List Point} {v : Point} → Polygon qs (v ∷ []) → All (λ q. q ≡ v) qs
 one_vertex {qs} {v} P = all_of qs (λ q k. point_ext (east q k) (north q k))
@@ -133,6 +135,7 @@ behind_two {v = v} {w = w} P a b ne l q k = go (behind_vertex P a b ne q k)
     go : (m : Point) × (m ∈ (v ∷ w ∷ [])) × (along a b q ≤ℤ along a b m) → along a b q ≤ℤ along a b w
     go (m, here e, h) = ≤_trans (subst (λ (r : Point). along a b q ≤ℤ along a b r) e h) l
     go (m, there (here e), h) = subst (λ (r : Point). along a b q ≤ℤ along a b r) e h
+    go (m , there (there x8) , h) = elim x8 [ ]
 
 behind_swapped : {qs : List Point} {v w : Point} → Polygon qs (v ∷ w ∷ []) → (a b : ℤ) → ((a ≡ pos 0) × (b ≡ pos 0) → ⊥) → along a b w ≤ℤ along a b v → (q : Point) → q ∈ qs → along a b q ≤ℤ along a b v
 behind_swapped {v = v} {w = w} P a b ne l q k = go (behind_vertex P a b ne q k)
@@ -140,6 +143,7 @@ behind_swapped {v = v} {w = w} P a b ne l q k = go (behind_vertex P a b ne q k)
     go : (m : Point) × (m ∈ (v ∷ w ∷ [])) × (along a b q ≤ℤ along a b m) → along a b q ≤ℤ along a b v
     go (m, here e, h) = subst (λ (r : Point). along a b q ≤ℤ along a b r) e h
     go (m, there (here e), h) = ≤_trans (subst (λ (r : Point). along a b q ≤ℤ along a b r) e h) l
+    go (m , there (there x8) , h) = elim x8 [ ]
 
 two_vertices : {qs : List Point} {v w : Point} → Polygon qs (v ∷ w ∷ []) → (v ≡ w → ⊥) → All (Between v w) qs
 two_vertices {qs} {v} {w} P ne = all_of qs (λ q k. record { in_line = ≤-antisym (right q k) (left q k); past_v = past q k; before_w = before q k })

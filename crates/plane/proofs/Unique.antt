@@ -54,6 +54,9 @@ at_most_two v w (x ∷ y ∷ ws) d h = absurd (clash (all_at h (here refl)) (all
     clash (here e) m = d.0 (here (sym e))
     clash (there (here e)) (here g) = d.0 (there (here (sym g)))
     clash (there (here e)) (there (here g)) = d.1.0 (here (e ∙ sym g))
+    clash (there (there x12)) m = elim x12 [ ]
+    clash (there (here e)) (there (there x14)) = elim x14 [ ]
+at_most_two v w (x ∷ []) d (there (there x23) & _) = elim x23 [ ]
 
 module _ {qs : List Point} (f : Point) where
   -- each vertex of one listing is a vertex of the other
@@ -66,10 +69,12 @@ module _ {qs : List Point} (f : Point) where
       none_more : (ws : List Point) → All (λ x. x ∈ (f ∷ [])) ws → Distinct (f ∷ ws) → [] ≡ ws
       none_more [] h d = refl
       none_more (x ∷ ws) (here e & h) d = absurd (d.0 (here (sym e)))
+      none_more (x ∷ ws) (there x12 & h) d = elim x12 [ ]
   few (v ∷ []) ws n P Q = go (at_most_two f v ws Q.once_each (shared (v ∷ []) ws P Q))
     where
       only_f : (x : Point) → x ∈ (f ∷ []) → f ≡ x
       only_f x (here e) = sym e
+      only_f x (there x8) = elim x8 [ ]
 
       go : (ws ≡ []) ⊎ (ws ≡ (v ∷ [])) → (v ∷ []) ≡ ws
       go (inr e) = sym e

@@ -1,6 +1,8 @@
 // The plugs' lines of the printing program (docs/SCOPE.md 8.2): the polygons of the round once, then plug by plug.
 //
 // Each step writes at the front of what it is lent, returns how much it wrote, and leaves the remainder as it was.
+#![tactic(auto)]
+
 ghost use Rattle.std.specs.Prelude.{◌+◌, ◌*◌, ◌/◌, ◌≤◌, length};
 ghost use Rattle.plane.specs.Points.{point};
 ghost use Rattle.rounds.specs.Boxes.{BoxList, boxes_of};

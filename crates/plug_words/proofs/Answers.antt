@@ -6,7 +6,7 @@ use lib.IntN.{ℤ}
 use Rattle.plane.specs.Points.{Point}
 use Rattle.turns.specs.Keys.{point_of}
 use Rattle.rounds.specs.Boxes.{boxes_of}
-use Rattle.rounds.specs.Refusals.{none, ◌orElse◌, box_list_fault, plug_fault, verdict_fault, refusal_fault}
+use Rattle.rounds.specs.Refusals.{none, ◌or_else◌, box_list_fault, plug_fault, verdict_fault, refusal_fault}
 use Rattle.rounds.specs.Replies.{result, reply_under}
 use Rattle.rounds.specs.Words.{word_of}
 use Rattle.rounds.specs.declared.Box.{Box}

@@ -1,5 +1,7 @@
 // The word of a plug against the polygons of a round, or its refusal, where a box may be known in which every plug is
 // inside.
+#![tactic(auto)]
+
 ghost use Rattle.std.specs.Prelude.{◌≡◌, true};
 ghost use Rattle.plane.specs.Points.{point};
 ghost use Rattle.rounds.specs.Picks.{InBox};
@@ -11,7 +13,7 @@ use verdicts::WordReply;
 
 // What the plugs of a round are judged by, beside the vertices: how many vertices each polygon has, and a box in which
 // every plug is inside. It holds no point where west is over east.
-#[derive(Drop)]
+#[derive(Clone, Copy)]
 pub struct RoundShapes {
     pub counts: RoundCounts,
     pub sure: Box,

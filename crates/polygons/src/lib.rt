@@ -1,5 +1,7 @@
 // The outer polygon and the corner polygons of a box list, written over the front of a lent buffer, east and north per
 // vertex. Scratch is chosen here, once for each.
+#![tactic(auto)]
+
 ghost use Rattle.std.specs.Prelude.{◌+◌, ◌*◌, ◌/◌, ◌≤◌, length};
 ghost use Rattle.rounds.specs.Boxes.{boxes_of, corners_of, all_corners, BoxList};
 ghost use Rattle.outlines.specs.Outlines.{ScratchFor, OuterRoom};
@@ -28,7 +30,7 @@ const SOME_KEYS: usize = 516;
 const MOST_VERTICES: usize = 4100;
 
 // How many vertices each of the corner polygons has.
-#[derive(Drop)]
+#[derive(Clone, Copy)]
 pub struct VertexCounts {
     pub southwest: usize,
     pub southeast: usize,

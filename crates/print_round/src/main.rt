@@ -1,6 +1,8 @@
 // The printing program (docs/SCOPE.md 8): it reads a round file on standard input and prints its text, part by part as
 // `text_parts` gives them. One byte more than 65,536 is read, so that a longer input is seen. A read or a write that
 // fails is told on standard error; where a read fails nothing is printed, and where a write fails nothing more.
+#![tactic(auto)]
+
 ghost use Rattle.std.specs.Prelude.{◌≤◌, length};
 ghost use Rattle.print_round.specs.Inputs.{Within, PrintingRoom};
 
@@ -13,7 +15,7 @@ use text_parts::PIECE_LENGTH;
 const READ_LENGTH: usize = MOST_INPUT + 1;
 
 // What reading came to: so many bytes at the front of the buffer, or a read that failed.
-#[derive(Drop)]
+#[derive(Clone, Copy)]
 enum Input {
     Read(usize),
     Failed,

@@ -1,5 +1,7 @@
 // The text of the printing program (docs/SCOPE.md 8.2): from the bytes that it reads to the bytes that it prints. Its
 // parts, the opening and pieces of the plugs' lines, are those of crate `text_parts`, one behind another.
+#![tactic(auto)]
+
 ghost use Rattle.std.specs.Prelude.{◌*◌, ◌≤◌, length};
 ghost use Rattle.texts.specs.Text.{text_of, Wrote};
 ghost use Rattle.plug_lines.specs.Steps.{most_plug_line};

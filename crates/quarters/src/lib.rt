@@ -1,6 +1,8 @@
 // The keys that the upper chain of the corners of boxes is made of, in order. A northmost key cuts the way from the
 // least key to the greatest in two: before it only corners of one name count, the north-western ones, and behind it
 // only those of another, the north-eastern ones; and of these only the keys outside the line to it, or from it.
+#![tactic(auto)]
+
 ghost use Rattle.std.specs.Prelude.{◌≤◌, ◌<◌, length, take, drop};
 ghost use Rattle.turns.specs.Keys.{Key, AllKeys};
 ghost use Rattle.orders.specs.Order.{get};

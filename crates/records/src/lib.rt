@@ -1,6 +1,8 @@
 // The verdict on a plug, for boxes lent as a list of records with four named edges. The records' edges are copied
 // into one flat list, and the verdict is that of the flat list. A list of too many records is turned back with none
 // of them copied.
+#![tactic(auto)]
+
 ghost use Rattle.std.specs.Prelude.{◌≡◌, [], ◌∷◌, ◌*◌, ◌<◌};
 ghost use Rattle.std.proofs.lemmas.List.Edits.{sets};
 ghost use Rattle.plane.specs.Points.{point};

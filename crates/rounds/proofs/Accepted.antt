@@ -17,7 +17,7 @@ use Rattle.rounds.specs.Boxes.{boxes_of, Ordered, BoxInSpan, most_boxes, BoxList
 use Rattle.rounds.specs.declared.Cause.{Cause}
 use Rattle.rounds.specs.declared.Cause.TheVariants as Cause
 use Rattle.rounds.specs.declared.Box.{Box}
-use Rattle.rounds.specs.Refusals.{Fault, fault, when, ◌orElse◌, beyond, edge_beyond, edges_reversed, box_fault, each_box_fault, box_list_fault, plug_fault}
+use Rattle.rounds.specs.Refusals.{Fault, fault, when, ◌or_else◌, beyond, edge_beyond, edges_reversed, box_fault, each_box_fault, box_list_fault, plug_fault}
 
 -- no fault of two in turn is no fault of either
 pub or_else_none : (f g : Fault) → f or_else g ≡ Fault.none → (f ≡ Fault.none) × (g ≡ Fault.none)

@@ -88,6 +88,7 @@ is_in_no p (q ∷ qs) (there m) = go (same p q) (is_in_no p qs m)
     go : (c : Bool) → T (is_in p qs) → T (c || is_in p qs)
     go true t = tt
     go false t = t
+is_in_no p [] x' = elim x' [ ]
 
 -- ---- listings
 

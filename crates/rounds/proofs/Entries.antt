@@ -401,6 +401,7 @@ named_in c n (b ∷ bs) {q} (there m) = go (named_in c (suc n) bs m)
             → cond t (corner_of r.corner b) (corner_at (suc n) bs (record { number = r.box; corner = r.corner; weight = w })) ≡ q
         at w (equal g) = absurd (omega arith)
         at w (unequal g) = r.is w
+named_in c n [] {q = q} x' = elim x' [ ]
 
 pub named_corner : (bs : List Box) {q : Point} → q ∈ all_corners bs → NamedCorner 1 bs q
 named_corner bs m =

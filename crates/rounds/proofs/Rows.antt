@@ -11,7 +11,7 @@ use Rattle.plane.proofs.Lists.{index_of_all}
 use Rattle.integers.proofs.Parts.{drop_two, drop_four}
 use Rattle.rounds.specs.Boxes.{box, boxes_of, box_at, plugs_of}
 use Rattle.rounds.specs.declared.Box.{Box}
-use Rattle.rounds.specs.Refusals.{Fault, ◌orElse◌, box_fault, each_box_fault, plug_fault, each_plug_fault}
+use Rattle.rounds.specs.Refusals.{Fault, ◌or_else◌, box_fault, each_box_fault, plug_fault, each_plug_fault}
 
 -- the plug whose coordinates start at i
 abbrev pub plug_at : List ℤ → ℕ → Point

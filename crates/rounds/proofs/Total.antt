@@ -108,7 +108,7 @@ word_means bs p os = go (alternative (map (from 1 p) (all_corners bs))) (at Sout
     go (inl h) (no sw) (no se) (yes k) nw = undecided_at NorthEast h k
     go (inl h) (no sw) (no se) (no ne) (yes k) = undecided_at NorthWest h k
     go (inl h) (no sw) (no se) (no ne) (no nw) =
-        inside_by_corners p (λ c. elim c [ SouthWest ↦ sw | SouthEast ↦ se | NorthEast ↦ ne | NorthWest ↦ nw ])
+        inside_by_corners p (λ c. elim c as (λ k. ¬ Supported (map (from 1 p) (corners_of k bs))) [ SouthWest ↦ sw | SouthEast ↦ se | NorthEast ↦ ne | NorthWest ↦ nw ])
 
 -- a word is the plug's exactly if it holds of every pick what the word says: demand 3, in both directions
 pub exactly : (bs : List Box) (p : Point) → All Ordered bs → (w : Word) → Means bs p w ↔ (w ≡ word_of bs p)

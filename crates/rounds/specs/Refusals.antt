@@ -56,8 +56,8 @@ when true cause place = fault cause place
 when false cause place = none
 
 -- the first of two that there is
-infixr 30 ◌orElse◌
-abbrev pub ◌orElse◌ : Fault → Fault → Fault
+infixr 30 ◌or_else◌
+abbrev pub ◌or_else◌ : Fault → Fault → Fault
 none or_else g = g
 fault c p or_else g = fault c p
 

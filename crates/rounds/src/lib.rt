@@ -1,5 +1,6 @@
 // Boxes, corners, words, reasons, causes and refusals as types, and their sizes (docs/SCOPE.md). What they
 // mean is in specs/, the theorems about them in proofs/. The crate has no function.
+#![tactic(auto)]
 
 // The most boxes that a round has.
 pub const MOST_BOXES: usize = 1024;
@@ -12,7 +13,7 @@ pub const MOST_INPUT: usize = 65536;
 
 // A box: four edges in whole metres.
 #[repr(C)]
-#[derive(Drop)]
+#[derive(Clone, Copy)]
 pub struct Box {
     pub west: i32,
     pub south: i32,
@@ -21,7 +22,7 @@ pub struct Box {
 }
 
 // A corner's name.
-#[derive(Drop)]
+#[derive(Clone, Copy)]
 pub enum Corner {
     SouthWest,
     SouthEast,
@@ -30,7 +31,7 @@ pub enum Corner {
 }
 
 // A verdict's word.
-#[derive(Drop)]
+#[derive(Clone, Copy)]
 pub enum Word {
     Inside,
     Outside,
@@ -39,7 +40,7 @@ pub enum Word {
 
 // The first driver's reason: that corner of every box is the pick, and no picked point is ahead of the plug in the
 // direction.
-#[derive(Drop)]
+#[derive(Clone, Copy)]
 pub struct Direction {
     pub corner: Corner,
     pub east: i32,
@@ -47,7 +48,7 @@ pub struct Direction {
 }
 
 // An entry of the second driver's reason: a box number from 1, a corner's name and a weight.
-#[derive(Drop)]
+#[derive(Clone, Copy)]
 pub struct Entry {
     pub number: usize,
     pub corner: Corner,
@@ -55,7 +56,7 @@ pub struct Entry {
 }
 
 // What an undecided verdict carries: a direction for the first driver, three entries for the second.
-#[derive(Drop)]
+#[derive(Clone, Copy)]
 pub struct Reasons {
     pub direction: Direction,
     pub first: Entry,
@@ -64,7 +65,7 @@ pub struct Reasons {
 }
 
 // A cause of the table of refusals (docs/SCOPE.md 6.2), in the order of their numbers (`number_of` of specs/Refusals).
-#[derive(Drop)]
+#[derive(Clone, Copy)]
 pub enum Cause {
     ListLength,
     NoBox,
@@ -81,14 +82,14 @@ pub enum Cause {
 }
 
 // What a refusal returns: its cause, which has a number, and a place.
-#[derive(Drop)]
+#[derive(Clone, Copy)]
 pub struct Refusal {
     pub cause: Cause,
     pub place: usize,
 }
 
 // What a check finds.
-#[derive(Drop)]
+#[derive(Clone, Copy)]
 pub enum Checked {
     Accepted,
     Refused(Refusal),

@@ -1,5 +1,7 @@
 // Whether a line through the plug has every box strictly on one side of it, so that the plug is outside: tried in one
 // direction, square to which the boxes are seen.
+#![tactic(auto)]
+
 ghost use Rattle.turns.specs.Keys.{Key, point_of};
 ghost use Rattle.rounds.specs.Boxes.{BoxList, boxes_of};
 ghost use Rattle.cones.specs.Wider.{Keyed};

@@ -1,5 +1,7 @@
 // What the corners of boxes tell the first driver of a plug, and the direction that shows it, by how they are seen from
 // the plug (crate views).
+#![tactic(auto)]
+
 ghost use Rattle.std.specs.Prelude.{◌≡◌};
 ghost use Rattle.turns.specs.Keys.{Key, point_of};
 ghost use Rattle.rounds.specs.Boxes.{BoxList, boxes_of, corners_of};
@@ -14,7 +16,7 @@ use rounds::{Corner, Direction};
 use views::View;
 
 // What some points tell the first driver: the plug is strictly inside their hull; or a direction shows that it is not.
-#[derive(Drop)]
+#[derive(Clone, Copy)]
 pub enum Support {
     Surrounded,
     Reason(Direction),

@@ -1,5 +1,7 @@
 // A box in which every plug of a round is inside, found once for many plugs. Inside is strictly within four convex
 // polygons, so a box has only plugs that are inside if its four corners are.
+#![tactic(auto)]
+
 ghost use Rattle.std.specs.Prelude.{◌≡◌, true};
 ghost use Rattle.integers.specs.Upto.{Upto};
 ghost use Rattle.plane.specs.Points.{point, span};
@@ -18,7 +20,7 @@ use verdicts::WordReply;
 const FEW_PLUGS: usize = 32;
 
 // Four keys, each far out in one of the four directions between east and north.
-#[derive(Drop)]
+#[derive(Clone, Copy)]
 struct Far {
     ne: u32,
     nw: u32,

@@ -3,6 +3,8 @@
 // piece by piece, so that nobody holds all plugs at once.
 //
 // Each step writes at the front of what it is lent, returns how much it wrote, and leaves the remainder as it was.
+#![tactic(auto)]
+
 ghost use Rattle.std.specs.Prelude.{◌-◌, ◌*◌, ◌≤◌, min, ◌≡◌, length};
 ghost use Rattle.rounds.specs.Refusals.{number_of, most_input};
 ghost use Rattle.formats.specs.declared.Reading.TheVariants.{Read};
@@ -28,7 +30,7 @@ const PIECE_NUMBERS: usize = 512;
 
 // The opening of a text: how many bytes it has, and how many plugs' lines follow, which are none behind a refusal. The
 // plugs are read from `at` on, and the round has these polygons.
-#[derive(Drop)]
+#[derive(Clone, Copy)]
 pub struct Opening {
     pub bytes: usize,
     pub plugs: usize,
@@ -38,7 +40,7 @@ pub struct Opening {
 
 // Lines that were written: how many bytes they have, how many plugs of the file have theirs now, and where the next
 // plug is read.
-#[derive(Drop)]
+#[derive(Clone, Copy)]
 pub struct Piece {
     pub bytes: usize,
     pub done: usize,

@@ -5,7 +5,7 @@ use Prim.Native.String.{String, [] as ε, ◌∷◌ as ◌◁◌}
 use mathlib.Core.List.{List, [], ◌∷◌, ◌++◌, flat_map}
 use Rattle.plane.specs.Points.{Point}
 use Rattle.rounds.specs.declared.Box.{Box}
-use Rattle.rounds.specs.Refusals.{Fault, none, fault, number_of, ◌orElse◌, input_fault, box_list_fault, plug_fault}
+use Rattle.rounds.specs.Refusals.{Fault, none, fault, number_of, ◌or_else◌, input_fault, box_list_fault, plug_fault}
 use Rattle.rounds.specs.Replies.{Reply, result, refused, reply_under, buffer_under}
 use Rattle.rounds.specs.Words.{word_of}
 use Rattle.rounds.specs.declared.Word.{Word}

@@ -1,6 +1,8 @@
 // Text at the front of a lent buffer: bytes, numbers in base ten, and fields of a label and a number.
 //
 // Each step writes at the front of what it is lent, returns how much it wrote, and leaves the remainder as it was.
+#![tactic(auto)]
+
 ghost use Rattle.std.specs.Prelude.{◌+◌, ◌<◌, ◌≤◌, ◌++◌, length};
 ghost use Rattle.texts.specs.Decimals.{decimal};
 ghost use Rattle.texts.specs.Text.{ascii, Wrote};

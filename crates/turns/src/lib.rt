@@ -1,6 +1,8 @@
 // The arithmetic of order and turns: a layer of its own (docs/SCOPE.md 3.6). Points of the span are carried as keys
 // (specs/Keys.antt), and no other crate knows how. Polygons and verdicts rely only on these promises. Nothing overflows
 // for coordinates in the span.
+#![tactic(auto)]
+
 ghost use Rattle.std.specs.Prelude.{◌≡◌, pos, ◌-ℤ◌, ◌≤ℤ◌};
 ghost use Rattle.std.specs.Int.Signed.{lt_z};
 ghost use Rattle.plane.specs.Points.{InSpan, point, signed_area, dot_product};
@@ -24,7 +26,7 @@ const GREATEST_KEY: u32 = GREATEST_PART * STRIDE + GREATEST_PART;
 pub const KEY_BOUND: u32 = STRIDE * STRIDE;
 
 // The turn from one point over a second to a third.
-#[derive(Drop)]
+#[derive(Clone, Copy)]
 pub enum Turn {
     Right,
     Straight,

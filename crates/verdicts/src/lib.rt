@@ -1,4 +1,6 @@
 // The verdict on a plug, with its reasons.
+#![tactic(auto)]
+
 ghost use Rattle.std.specs.Prelude.{◌≡◌};
 ghost use Rattle.plane.specs.Points.{point};
 ghost use Rattle.turns.specs.Keys.{Key};
@@ -12,7 +14,7 @@ use rounds::{Checked, Corner, Reasons, Refusal, Word};
 use supports::Support;
 
 // The verdict on a plug.
-#[derive(Drop)]
+#[derive(Clone, Copy)]
 pub enum Verdict {
     Inside,
     Outside,
@@ -21,7 +23,7 @@ pub enum Verdict {
 }
 
 // The verdict's word alone.
-#[derive(Drop)]
+#[derive(Clone, Copy)]
 pub enum WordReply {
     Given(Word),
     Refused(Refusal),

@@ -3,6 +3,8 @@
 //
 // A case is: how many numbers are new at the front of the box list, those numbers, how many of the list are lent, and
 // the plug. oracle/write_cases.py writes `stdin`, and `stdout` from docs/SCOPE.md.
+#![tactic(auto)]
+
 use rounds::Word;
 use verdicts::{Verdict, WordReply};
 

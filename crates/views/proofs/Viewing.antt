@@ -75,7 +75,7 @@ module _ {bs : List Box} {p : Point} where
       → LooksAt bs p start (q ∷ []) (record { cone = wider; met = r })
   looks_corner start v {q} {wider} {r} e n w m =
       record {
-        says = λ qs s. subst (λ x. Says bs (qs ++ (x ∷ [])) p wider r) e (record { of_cone = w.says bs qs n s.of-cone; of_met = m.says bs qs n s.of-met });
+        says = λ qs s. subst (λ x. Says bs (qs ++ (x ∷ [])) p wider r) e (record { of_cone = w.says bs qs n s.of_cone; of_met = m.says bs qs n s.of_met });
       }
 
   -- some, then others
@@ -119,8 +119,8 @@ module _ {bs : List Box} {p : Point} {start : View} (set : CornerSet) (k : ℕ) 
 
       around : (qs : List Point) → ViewSays bs qs p view → ViewSays bs (qs ++ more) p view
       around qs s =
-          let wide = around_more more (subst (ConeSays bs qs p) e s.of-cone) in
-          record { of_cone = subst (ConeSays bs (qs ++ more) p) (sym e) wide; of_met = met_around bs qs more p view.met wide.surrounded s.of-met }
+          let wide = around_more more (subst (ConeSays bs qs p) e s.of_cone) in
+          record { of_cone = subst (ConeSays bs (qs ++ more) p) (sym e) wide; of_met = met_around bs qs more p view.met wide.surrounded s.of_met }
 
 -- ---- the view that the code finds
 

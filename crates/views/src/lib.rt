@@ -1,5 +1,7 @@
 // The corners of boxes as seen from a plug: one pass over the boxes widens the cone of the points so far (crate cones)
 // by a corner of each or by all four, from whatever view it starts. No polygon is made, and there is no scratch.
+#![tactic(auto)]
+
 ghost use Rattle.std.specs.Prelude.{◌≡◌, suc, ◌/◌, ◌<◌, length};
 ghost use Rattle.turns.specs.Keys.{Key};
 ghost use Rattle.rounds.specs.Boxes.{BoxList, boxes_of};
@@ -13,7 +15,7 @@ use passes::{CornerSet, Met};
 use rounds::Corner;
 
 // The points so far, as seen from the plug.
-#[derive(Drop)]
+#[derive(Clone, Copy)]
 pub struct View {
     pub cone: Cone,
     pub met: Met,

@@ -1,4 +1,6 @@
 // The word of a plug against the five polygons of a round, which are made once for many plugs.
+#![tactic(auto)]
+
 ghost use Rattle.locations.specs.Places.{PlaceOf};
 ghost use Rattle.outlines.specs.RoundPolygons.{vertices_from, outer_vertices};
 ghost use Rattle.words.specs.Words.{PartKeys, RoundKeys, WithinOf, WordIn};

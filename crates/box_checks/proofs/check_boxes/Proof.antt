@@ -8,7 +8,7 @@ use borrow.Author.Tests.{eq-eqb, ne_eqb, le-ltb, lt-ltb}
 use lib.IntN.{ℤ}
 use lib.ListN.{length, drop}
 use Rattle.rounds.specs.Boxes.{boxes_of, box_at}
-use Rattle.rounds.specs.Refusals.{Fault, fault_of, ◌orElse◌, each_box_fault, box_fault, box_list_fault}
+use Rattle.rounds.specs.Refusals.{Fault, fault_of, ◌or_else◌, each_box_fault, box_fault, box_list_fault}
 use Rattle.rounds.proofs.Rows.{box_step, box_none}
 use Rattle.box_checks.proofs.check_boxes.Statement.{statement}
 use Rattle.box_checks.proofs.check_boxes.Tie as tie

@@ -4,7 +4,7 @@ use Prim.Native.Nat.{◌*◌, ◌/◌}
 use native.Mathlib.Omega.{arith}
 use borrow.Author.Rules.{rules}
 use lib.ListN.{length}
-use Rattle.rounds.specs.Refusals.{◌orElse◌, buffer_fault, area_fault}
+use Rattle.rounds.specs.Refusals.{◌or_else◌, buffer_fault, area_fault}
 use Rattle.checks.proofs.check_area.Statement.{statement}
 use Rattle.checks.proofs.check_area.Tie as tie
 
@@ -25,7 +25,7 @@ unfolding area_fault
 returns c =
     let s = c.before.before.before in
     let same : length s.args.boxes.now / 4 * 8 ≡ 8 * (length s.args.boxes.now / 4) = omega arith in
-    c.first-refusal.ensures ∙ ap₂ ◌orElse◌ c.before.before.check-boxes.ensures (c.before.check-buffer.ensures ∙ ap (λ n. buffer_fault n s.args.given) same)
+    c.first-refusal.ensures ∙ ap₂ ◌or_else◌ c.before.before.check-boxes.ensures (c.before.check-buffer.ensures ∙ ap (λ n. buffer_fault n s.args.given) same)
 
 pub check-area-spec : {M : Type 1} → statement M
 check-area-spec =

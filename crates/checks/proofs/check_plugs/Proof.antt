@@ -8,7 +8,7 @@ use borrow.Author.Tests.{eq-eqb, ne_eqb}
 use lib.IntN.{ℤ}
 use lib.ListN.{length, drop}
 use Rattle.rounds.specs.Boxes.{plugs_of}
-use Rattle.rounds.specs.Refusals.{Fault, fault_of, ◌orElse◌, each_plug_fault, plug_fault, plug_list_fault}
+use Rattle.rounds.specs.Refusals.{Fault, fault_of, ◌or_else◌, each_plug_fault, plug_fault, plug_list_fault}
 use Rattle.rounds.proofs.Rows.{plug_at, plug_step, plug_none}
 use Rattle.checks.proofs.check_plugs.Statement.{statement}
 use Rattle.checks.proofs.check_plugs.Tie as tie

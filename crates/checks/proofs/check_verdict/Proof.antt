@@ -2,7 +2,7 @@
 use mathlib.Core.Path.{sym, ◌∙◌, ap}
 use borrow.Author.Rules.{rules}
 use Rattle.plane.specs.Points.{point}
-use Rattle.rounds.specs.Refusals.{fault_of, ◌orElse◌, plug_fault, verdict_fault}
+use Rattle.rounds.specs.Refusals.{fault_of, ◌or_else◌, plug_fault, verdict_fault}
 use Rattle.checks.proofs.check_verdict.Statement.{statement}
 use Rattle.checks.proofs.check_verdict.Tie as tie
 

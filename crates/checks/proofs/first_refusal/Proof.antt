@@ -1,7 +1,7 @@
 -- `checks::first_refusal` meets its contract: the match decides `or_else`. Assumes nothing.
 use mathlib.Core.Path.{sym, ap}
 use borrow.Author.Rules.{rules}
-use Rattle.rounds.specs.Refusals.{fault_of, ◌orElse◌}
+use Rattle.rounds.specs.Refusals.{fault_of, ◌or_else◌}
 use Rattle.checks.proofs.first_refusal.Statement.{statement}
 use Rattle.checks.proofs.first_refusal.Tie as tie
 

@@ -4,7 +4,7 @@ use Prim.Native.Nat.{◌*◌, ◌^◌, ◌<◌}
 use native.Mathlib.Omega.{arith}
 use borrow.Author.Rules.{rules}
 use lib.ListN.{length}
-use Rattle.rounds.specs.Refusals.{none, fault_of, ◌orElse◌, buffer_fault}
+use Rattle.rounds.specs.Refusals.{none, fault_of, ◌or_else◌, buffer_fault}
 use Rattle.file_passes.proofs.Judging.{WellFormed, well_formed, faulty}
 use Rattle.files.proofs.Reader.{refused_by_form, refused_by_length, box_room, plug_room, was_read}
 use Rattle.files.proofs.read_round.Statement.{statement}

@@ -4,7 +4,7 @@ use Prim.Native.Nat.{◌^◌, ◌<◌, ◌≤◌}
 use native.Mathlib.Omega.{arith}
 use borrow.Author.Rules.{rules}
 use lib.ListN.{length}
-use Rattle.rounds.specs.Refusals.{none, fault_of, ◌orElse◌, box_list_fault, plug_list_fault, buffer_fault}
+use Rattle.rounds.specs.Refusals.{none, fault_of, ◌or_else◌, box_list_fault, plug_list_fault, buffer_fault}
 use Rattle.rounds.proofs.Accepted.{or_else_none, accepted}
 use Rattle.formats.specs.Promises.{byte_count}
 use Rattle.files.proofs.Buffers.{fits_buffer}

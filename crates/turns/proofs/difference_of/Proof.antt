@@ -4,25 +4,25 @@ use borrow.Author.Rules.{rules}
 use Rattle.turns.proofs.difference_of.Statement.{statement}
 use Rattle.turns.proofs.difference_of.Tie as tie
 
-north-part-requires : tie.Need-north-part-requires
+north-part-requires : tie.Need-north_part-requires
 north-part-requires c κs = search rules
 
-east-part-requires : tie.Need-east-part-requires
+east-part-requires : tie.Need-east_part-requires
 east-part-requires c κs = search rules
 
-sub-result : tie.Need-overflow-sub-result
+sub-result : tie.Need-overflow_sub-result
 sub-result c = search rules
 
-add-result : tie.Need-overflow-add-result
+add-result : tie.Need-overflow_add-result
 add-result c = search rules
 
-mul-result : tie.Need-overflow-mul-result
+mul-result : tie.Need-overflow_mul-result
 mul-result c = search rules
 
-east-part-requires-2 : tie.Need-east-part-requires-2
+east-part-requires-2 : tie.Need-east_part-requires-2
 east-part-requires-2 c κs = search rules
 
-add-result-2 : tie.Need-overflow-add-result-2
+add-result-2 : tie.Need-overflow_add-result-2
 add-result-2 c = search rules
 
 returns : tie.Need-returns

@@ -40,13 +40,13 @@ east-between-requires-2 c κs = search rules
 north-between-requires-2 : tie.Need-north-between-requires-2
 north-between-requires-2 c κs = search rules
 
-mul-result : tie.Need-overflow-mul-result
+mul-result : tie.Need-overflow_mul-result
 mul-result c = ask_mul (be c) (ce c) tt
 
-mul-result-2 : tie.Need-overflow-mul-result-2
+mul-result-2 : tie.Need-overflow_mul-result-2
 mul-result-2 c = ask_mul (bn c) (cn c) tt
 
-add-result : tie.Need-overflow-add-result
+add-result : tie.Need-overflow_add-result
 add-result c = ask_add (got_mul (be c) (ce c) tt) (got_mul (bn c) (cn c) tt) tt
 
 returns : tie.Need-returns

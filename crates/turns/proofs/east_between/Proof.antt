@@ -9,20 +9,20 @@ use borrow.Author.Rules.{rules}
 use Rattle.turns.proofs.east_between.Statement.{statement}
 use Rattle.turns.proofs.east_between.Tie as tie
 
-module _ (c : tie.After-east-of2) where
-  of-b : Got w32 16000 (to_z w32 (of_z w32 c.before.east-of.result)) (point_of c.before.before.args.b).east
-  of-b = small tt c.before.east-of.ensures (key_in_span c.before.before.requires.1).easts
+module _ (c : tie.After-east_of-2) where
+  of-b : Got w32 16000 (to_z w32 (of_z w32 c.before.east_of.result)) (point_of c.before.before.args.b).east
+  of-b = small tt c.before.east_of.ensures (key_in_span c.before.before.requires.1).easts
 
-  of-a : Got w32 16000 (to_z w32 (of_z w32 c.east-of2.result)) (point_of c.before.before.args.a).east
-  of-a = small tt c.east-of2.ensures (key_in_span c.before.before.requires.0).easts
+  of-a : Got w32 16000 (to_z w32 (of_z w32 c.east_of-2.result)) (point_of c.before.before.args.a).east
+  of-a = small tt c.east_of-2.ensures (key_in_span c.before.before.requires.0).easts
 
-east-of-requires : tie.Need-east-of-requires
+east-of-requires : tie.Need-east_of-requires
 east-of-requires c κs = search rules
 
-east-of-requires-2 : tie.Need-east-of-requires-2
+east-of-requires-2 : tie.Need-east_of-requires-2
 east-of-requires-2 c κs = search rules
 
-sub-result : tie.Need-overflow-sub-result
+sub-result : tie.Need-overflow_sub-result
 sub-result c = ask_sub (of-b c) (of-a c) tt
 
 returns : tie.Need-returns

@@ -10,21 +10,21 @@ use borrow.Author.Rules.{rules}
 use Rattle.turns.proofs.east_of.Statement.{statement}
 use Rattle.turns.proofs.east_of.Tie as tie
 
-small : (c : tie.After-east-part) → c.east-part.result ≤ greatest_part
-small c = omega (arith, c.east-part.ensures, c.before.requires.east_in)
+small : (c : tie.After-east_part) → c.east_part.result ≤ greatest_part
+small c = omega (arith, c.east_part.ensures, c.before.requires.east_in)
 
-east-part-requires : tie.Need-east-part-requires
+east-part-requires : tie.Need-east_part-requires
 east-part-requires c κs = search rules
 
-cast-result : tie.Need-overflow-cast-result
+cast-result : tie.Need-overflow_cast-result
 cast-result c = search rules
 
-sub-result : tie.Need-overflow-sub-result
-sub-result c = part_fits c.east-part.result (small c)
+sub-result : tie.Need-overflow_sub-result
+sub-result c = part_fits c.east_part.result (small c)
 
 returns : tie.Need-returns
 unfolding point_of
-returns c = part_is c.east-part.result (small c) ∙ ap (λ (n : ℕ). pos n -ℤ pos span) c.east-part.ensures
+returns c = part_is c.east_part.result (small c) ∙ ap (λ (n : ℕ). pos n -ℤ pos span) c.east_part.ensures
 
 pub east-of-spec : {M : Type 1} → statement M
 east-of-spec = tie.close (tie.spec east-part-requires cast-result sub-result returns)

@@ -4,22 +4,22 @@ use Rattle.turns.proofs.Coordinates.{moved, moved_fits, key_made}
 use Rattle.turns.proofs.key_of.Statement.{statement}
 use Rattle.turns.proofs.key_of.Tie as tie
 
-add-e : tie.Need-overflow-add-e
+add-e : tie.Need-overflow_add-e
 add-e c = moved_fits c.ranges.east c.requires.easts
 
-cast-e : tie.Need-overflow-cast-e
+cast-e : tie.Need-overflow_cast-e
 cast-e c = ((moved c.ranges.east c.requires.easts).not_neg, omega (arith, (moved c.ranges.east c.requires.easts).most))
 
-add-n : tie.Need-overflow-add-n
+add-n : tie.Need-overflow_add-n
 add-n c = moved_fits c.ranges.north c.requires.norths
 
-cast-n : tie.Need-overflow-cast-n
+cast-n : tie.Need-overflow_cast-n
 cast-n c = ((moved c.ranges.north c.requires.norths).not_neg, omega (arith, (moved c.ranges.north c.requires.norths).most))
 
-mul-result : tie.Need-overflow-mul-result
+mul-result : tie.Need-overflow_mul-result
 mul-result c = omega (arith, (moved c.ranges.east c.requires.easts).most)
 
-add-result : tie.Need-overflow-add-result
+add-result : tie.Need-overflow_add-result
 add-result c = omega (arith, (moved c.ranges.east c.requires.easts).most, (moved c.ranges.north c.requires.norths).most)
 
 returns : tie.Need-returns

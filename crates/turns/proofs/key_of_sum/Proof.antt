@@ -5,13 +5,13 @@ use borrow.Author.Rules.{rules}
 use Rattle.turns.proofs.key_of_sum.Statement.{statement}
 use Rattle.turns.proofs.key_of_sum.Tie as tie
 
-mul-result : tie.Need-overflow-mul-result
+mul-result : tie.Need-overflow_mul-result
 mul-result c = search rules
 
-sub-result : tie.Need-overflow-sub-result
+sub-result : tie.Need-overflow_sub-result
 sub-result c = let k = c.requires in omega (arith, sum_parts k.1 k.2)
 
-add-result : tie.Need-overflow-add-result
+add-result : tie.Need-overflow_add-result
 add-result c = search rules
 
 returns : tie.Need-returns

@@ -9,20 +9,20 @@ use borrow.Author.Rules.{rules}
 use Rattle.turns.proofs.north_between.Statement.{statement}
 use Rattle.turns.proofs.north_between.Tie as tie
 
-module _ (c : tie.After-north-of2) where
-  of-b : Got w32 16000 (to_z w32 (of_z w32 c.before.north-of.result)) (point_of c.before.before.args.b).north
-  of-b = small tt c.before.north-of.ensures (key_in_span c.before.before.requires.1).norths
+module _ (c : tie.After-north_of-2) where
+  of-b : Got w32 16000 (to_z w32 (of_z w32 c.before.north_of.result)) (point_of c.before.before.args.b).north
+  of-b = small tt c.before.north_of.ensures (key_in_span c.before.before.requires.1).norths
 
-  of-a : Got w32 16000 (to_z w32 (of_z w32 c.north-of2.result)) (point_of c.before.before.args.a).north
-  of-a = small tt c.north-of2.ensures (key_in_span c.before.before.requires.0).norths
+  of-a : Got w32 16000 (to_z w32 (of_z w32 c.north_of-2.result)) (point_of c.before.before.args.a).north
+  of-a = small tt c.north_of-2.ensures (key_in_span c.before.before.requires.0).norths
 
-north-of-requires : tie.Need-north-of-requires
+north-of-requires : tie.Need-north_of-requires
 north-of-requires c κs = search rules
 
-north-of-requires-2 : tie.Need-north-of-requires-2
+north-of-requires-2 : tie.Need-north_of-requires-2
 north-of-requires-2 c κs = search rules
 
-sub-result : tie.Need-overflow-sub-result
+sub-result : tie.Need-overflow_sub-result
 sub-result c = ask_sub (of-b c) (of-a c) tt
 
 returns : tie.Need-returns

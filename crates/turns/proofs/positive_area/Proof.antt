@@ -11,13 +11,13 @@ use Rattle.turns.proofs.positive_area.Statement.{statement}
 use Rattle.turns.proofs.positive_area.Tie as tie
 
 -- the signed area, as the machine reads it back
-is : (c : tie.After-signed-area) → to_z w64 (of_z w64 c.signed-area.result) ≡ signed_area (point_of c.before.args.a) (point_of c.before.args.b) (point_of c.before.args.c)
-is c = returned w64 c.signed-area.type-inv c.signed-area.ensures
+is : (c : tie.After-signed_area) → to_z w64 (of_z w64 c.signed_area.result) ≡ signed_area (point_of c.before.args.a) (point_of c.before.args.b) (point_of c.before.args.c)
+is c = returned w64 c.signed_area.type_inv c.signed_area.ensures
 
-signed-area-requires : tie.Need-signed-area-requires
+signed-area-requires : tie.Need-signed_area-requires
 signed-area-requires c κs = search rules
 
-cast-result : tie.Need-overflow-cast-result
+cast-result : tie.Need-overflow_cast-result
 cast-result c =
     let k = c.before.requires.0 in
     unsigned_fits (is c) c.before.requires.1 (area_upto (key_in_span k.0) (key_in_span k.1) (key_in_span k.2)).high

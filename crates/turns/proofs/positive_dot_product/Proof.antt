@@ -11,13 +11,13 @@ use Rattle.turns.proofs.positive_dot_product.Statement.{statement}
 use Rattle.turns.proofs.positive_dot_product.Tie as tie
 
 -- the dot product, as the machine reads it back
-is : (c : tie.After-dot-product) → to_z w32 (of_z w32 c.dot-product.result) ≡ dot_product (point_of c.before.args.a) (point_of c.before.args.b) (point_of c.before.args.c)
-is c = returned w32 c.dot-product.type-inv c.dot-product.ensures
+is : (c : tie.After-dot_product) → to_z w32 (of_z w32 c.dot_product.result) ≡ dot_product (point_of c.before.args.a) (point_of c.before.args.b) (point_of c.before.args.c)
+is c = returned w32 c.dot_product.type_inv c.dot_product.ensures
 
-dot-product-requires : tie.Need-dot-product-requires
+dot-product-requires : tie.Need-dot_product-requires
 dot-product-requires c κs = search rules
 
-cast-result : tie.Need-overflow-cast-result
+cast-result : tie.Need-overflow_cast-result
 cast-result c =
     let k = c.before.requires.0 in
     unsigned_fits (is c) c.before.requires.1 (dot_product_upto (key_in_span k.0) (key_in_span k.1) (key_in_span k.2)).high

@@ -6,7 +6,7 @@ use Rattle.turns.proofs.Parts.{key_most}
 use Rattle.turns.proofs.reflected.Statement.{statement}
 use Rattle.turns.proofs.reflected.Tie as tie
 
-sub-result : tie.Need-overflow-sub-result
+sub-result : tie.Need-overflow_sub-result
 sub-result c = omega (arith, key_most c.requires)
 
 returns : tie.Need-returns

@@ -54,58 +54,58 @@ difference h k = got_sub h k tt
 east-of-requires : tie.Need-east-of-requires
 east-of-requires c κs = search rules
 
-cast-ae : tie.Need-overflow-cast-ae
+cast-ae : tie.Need-overflow_cast-ae
 cast-ae c = coordinate-fits c.east-of.ensures (key_in_span c.before.requires.0).easts
 
 north-of-requires : tie.Need-north-of-requires
 north-of-requires c κs = search rules
 
-cast-an : tie.Need-overflow-cast-an
+cast-an : tie.Need-overflow_cast-an
 cast-an c = coordinate-fits c.north-of.ensures (key_in_span c.before.before.requires.0).norths
 
 east-of-requires-2 : tie.Need-east-of-requires-2
 east-of-requires-2 c κs = search rules
 
-cast-be : tie.Need-overflow-cast-be
+cast-be : tie.Need-overflow_cast-be
 cast-be c = coordinate-fits c.east-of2.ensures (key_in_span c.before.before.before.requires.1).easts
 
 north-of-requires-2 : tie.Need-north-of-requires-2
 north-of-requires-2 c κs = search rules
 
-cast-bn : tie.Need-overflow-cast-bn
+cast-bn : tie.Need-overflow_cast-bn
 cast-bn c = coordinate-fits c.north-of2.ensures (key_in_span c.before.before.before.before.requires.1).norths
 
 east-of-requires-3 : tie.Need-east-of-requires-3
 east-of-requires-3 c κs = search rules
 
-cast-ce : tie.Need-overflow-cast-ce
+cast-ce : tie.Need-overflow_cast-ce
 cast-ce c = coordinate-fits c.east-of3.ensures (key_in_span c.before.before.before.before.before.requires.2).easts
 
 north-of-requires-3 : tie.Need-north-of-requires-3
 north-of-requires-3 c κs = search rules
 
-cast-cn : tie.Need-overflow-cast-cn
+cast-cn : tie.Need-overflow_cast-cn
 cast-cn c = coordinate-fits c.north-of3.ensures (key_in_span (start c).requires.2).norths
 
-sub-result : tie.Need-overflow-sub-result
+sub-result : tie.Need-overflow_sub-result
 sub-result c = ask_sub (be c) (ae c) tt
 
-sub-result-2 : tie.Need-overflow-sub-result-2
+sub-result-2 : tie.Need-overflow_sub-result-2
 sub-result-2 c = ask_sub (cn c) (an c) tt
 
-mul-result : tie.Need-overflow-mul-result
+mul-result : tie.Need-overflow_mul-result
 mul-result c = ask_mul (difference (be c) (ae c)) (difference (cn c) (an c)) tt
 
-sub-result-3 : tie.Need-overflow-sub-result-3
+sub-result-3 : tie.Need-overflow_sub-result-3
 sub-result-3 c = ask_sub (bn c) (an c) tt
 
-sub-result-4 : tie.Need-overflow-sub-result-4
+sub-result-4 : tie.Need-overflow_sub-result-4
 sub-result-4 c = ask_sub (ce c) (ae c) tt
 
-mul-result-2 : tie.Need-overflow-mul-result-2
+mul-result-2 : tie.Need-overflow_mul-result-2
 mul-result-2 c = ask_mul (difference (bn c) (an c)) (difference (ce c) (ae c)) tt
 
-sub-result-5 : tie.Need-overflow-sub-result-5
+sub-result-5 : tie.Need-overflow_sub-result-5
 sub-result-5 c =
     ask_sub
     (got_mul (difference (be c) (ae c)) (difference (cn c) (an c)) tt)

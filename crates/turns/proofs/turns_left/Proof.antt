@@ -8,12 +8,12 @@ use borrow.Author.Rules.{rules}
 use Rattle.turns.proofs.turns_left.Statement.{statement}
 use Rattle.turns.proofs.turns_left.Tie as tie
 
-signed-area-requires : tie.Need-signed-area-requires
+signed-area-requires : tie.Need-signed_area-requires
 signed-area-requires c κs = search rules
 
 returns : tie.Need-returns
 returns c =
-    ltz {w = w64} (lit (pos 0) tt) (ok c.signed-area.result c.signed-area.type-inv) ∙ ap (λ (z : ℤ). lt_z (pos 0) z) c.signed-area.ensures
+    ltz {w = w64} (lit (pos 0) tt) (ok c.signed_area.result c.signed_area.type_inv) ∙ ap (λ (z : ℤ). lt_z (pos 0) z) c.signed_area.ensures
 
 pub turns-left-spec : {M : Type 1} → statement M
 turns-left-spec = tie.close (tie.spec signed-area-requires returns)
