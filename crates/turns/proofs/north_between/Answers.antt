@@ -5,28 +5,17 @@ use Rattle.integers.proofs.Machine.{Got, ask_sub, got_sub}
 use Rattle.turns.specs.Keys.{point_of}
 use Rattle.turns.proofs.Coordinates.{key_in_span}
 use Rattle.turns.proofs.Bounds.{small}
-use borrow.Author.Rules.{rules}
-use Rattle.turns.proofs.north_between.Statement.{statement}
-use Rattle.turns.proofs.north_between.Tie as tie
+use Rattle.turns.proofs.north_between.Goals as goal
 
-module _ (c : tie.After-north_of-2) where
+module _ (c : goal.After-north_of-2) where
   of-b : Got w32 16000 (to_z w32 (of_z w32 c.before.north_of.result)) (point_of c.before.before.args.b).north
   of-b = small tt c.before.north_of.ensures (key_in_span c.before.before.requires.1).norths
 
   of-a : Got w32 16000 (to_z w32 (of_z w32 c.north_of-2.result)) (point_of c.before.before.args.a).north
   of-a = small tt c.north_of-2.ensures (key_in_span c.before.before.requires.0).norths
 
-north-of-requires : tie.Need-north_of-requires
-north-of-requires c κs = search rules
+pub overflow_sub-result : goal.overflow_sub-result
+overflow_sub-result c = ask_sub (of-b c) (of-a c) tt
 
-north-of-requires-2 : tie.Need-north_of-requires-2
-north-of-requires-2 c κs = search rules
-
-sub-result : tie.Need-overflow_sub-result
-sub-result c = ask_sub (of-b c) (of-a c) tt
-
-returns : tie.Need-returns
+pub returns : goal.returns
 returns c = (got_sub (of-b c) (of-a c) tt).eq
-
-pub north-between-spec : {M : Type 1} → statement M
-north-between-spec = tie.close (tie.spec north-of-requires north-of-requires-2 sub-result returns)

@@ -5,28 +5,17 @@ use Rattle.integers.proofs.Machine.{Got, ask_sub, got_sub}
 use Rattle.turns.specs.Keys.{point_of}
 use Rattle.turns.proofs.Coordinates.{key_in_span}
 use Rattle.turns.proofs.Bounds.{small}
-use borrow.Author.Rules.{rules}
-use Rattle.turns.proofs.east_between.Statement.{statement}
-use Rattle.turns.proofs.east_between.Tie as tie
+use Rattle.turns.proofs.east_between.Goals as goal
 
-module _ (c : tie.After-east_of-2) where
+module _ (c : goal.After-east_of-2) where
   of-b : Got w32 16000 (to_z w32 (of_z w32 c.before.east_of.result)) (point_of c.before.before.args.b).east
   of-b = small tt c.before.east_of.ensures (key_in_span c.before.before.requires.1).easts
 
   of-a : Got w32 16000 (to_z w32 (of_z w32 c.east_of-2.result)) (point_of c.before.before.args.a).east
   of-a = small tt c.east_of-2.ensures (key_in_span c.before.before.requires.0).easts
 
-east-of-requires : tie.Need-east_of-requires
-east-of-requires c κs = search rules
+pub overflow_sub-result : goal.overflow_sub-result
+overflow_sub-result c = ask_sub (of-b c) (of-a c) tt
 
-east-of-requires-2 : tie.Need-east_of-requires-2
-east-of-requires-2 c κs = search rules
-
-sub-result : tie.Need-overflow_sub-result
-sub-result c = ask_sub (of-b c) (of-a c) tt
-
-returns : tie.Need-returns
+pub returns : goal.returns
 returns c = (got_sub (of-b c) (of-a c) tt).eq
-
-pub east-between-spec : {M : Type 1} → statement M
-east-between-spec = tie.close (tie.spec east-of-requires east-of-requires-2 sub-result returns)
