@@ -13,7 +13,6 @@ use mir.ValLaws.{of_z-to_z}
 use Rattle.integers.proofs.Parts.{drop_two, drop_four}
 use Rattle.rounds.specs.Refusals.{Fault, none, fault}
 use Rattle.rounds.specs.declared.Cause.{Cause}
-use Rattle.rounds.specs.declared.Cause.TheVariants as Cause
 use Rattle.formats.specs.Format.{box_mark, plug_mark, end_mark, mark_length, box_length, plug_length, mark_bytes, four_bytes, number_bytes}
 use Rattle.formats.specs.Format.{box_record, plug_record, end_record, file_of, byte_at, AllBytes, mark_at, number_at, file_box_at, file_plug_at}
 use Rattle.formats.specs.Format.{Kind, box_kind, plug_kind, note_kind, end_kind, unknown_kind, kind_at, next_at}

@@ -1,0 +1,26 @@
+-- `file_records::note_at` meets its contract. A byte is below 256. Assumes nothing.
+use mathlib.Core.Path.{◌∙◌}
+use Prim.Native.Nat.{◌+◌, ◌<◌}
+use native.Mathlib.Omega.{arith}
+use borrow.Author.Tests.{lt-ltb}
+use lib.ListN.{length}
+use Rattle.formats.specs.Format.{byte_at, next_at}
+use Rattle.formats.specs.Content.{kind_fault}
+use Rattle.file_records.proofs.note_at.Goals as goal
+
+pub returns-then-file-body : goal.returns-then-file-body
+unfolding kind_fault next_at
+returns-then-file-body c =
+    let a = c.args in
+    let h : length a.file.now < a.at + 3 + byte_at a.file.now (a.at + 2) = omega arith in
+    c.refused.ensures ∙ simp (lt-ltb _ _ h)
+
+pub overflow_cast-end : goal.overflow_cast-end
+overflow_cast-end c = omega (arith, c.shared_slice_known-2-1.given (c.args.at + 2))
+
+pub overflow_add-end-2 : goal.overflow_add-end-2
+overflow_add-end-2 c = omega (arith, c.shared_slice_known-2-1.given (c.args.at + 2))
+
+pub returns : goal.returns
+unfolding kind_fault next_at
+returns c = c.whole.ensures
