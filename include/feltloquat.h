@@ -73,7 +73,7 @@ extern "C" {
 #define FELTLOQUAT_MOST_DIRECTION 32000   /* the greatest part of a direction; the least is its negative */
 #define FELTLOQUAT_MOST_WEIGHT 2048000000 /* the greatest weight of an entry */
 #define FELTLOQUAT_MOST_INPUT 65536       /* the most bytes of a file that feltloquat_print_round takes */
-#define FELTLOQUAT_TEXT_LENGTH 98304      /* the bytes of the text that feltloquat_print_round is lent */
+#define FELTLOQUAT_TEXT_LENGTH 131072     /* the bytes of the text that feltloquat_print_round is lent */
 
 /* The most bytes of stack that each call takes, for every input. */
 #define FELTLOQUAT_STACK_OUTER_POLYGON 43008

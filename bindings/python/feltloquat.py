@@ -549,6 +549,6 @@ def write_round(boxes: _Numbers, plugs: _Numbers) -> bytes:
 def print_round(file: _Numbers) -> str:
     """The text that the printing program prints for a round file: one line 'refused NUMBER PLACE', 12 for more than 65,536 bytes; or
     'boxes COUNT plugs COUNT', then per plug its number and a word, or its number and 'refused 6'."""
-    with _lent(file, _BYTE, "file") as lent, _blank(98304, _BYTE) as text:
+    with _lent(file, _BYTE, "file") as lent, _blank(131072, _BYTE) as text:
         count = _print_round(_address(lent, 1), len(lent), _address(text, 1))
         return str(text[:count], "ascii")

@@ -504,7 +504,7 @@ static void check_header(void) {
     same("most direction", FELTLOQUAT_MOST_DIRECTION, LIMIT_DIRECTION);
     same("most weight", FELTLOQUAT_MOST_WEIGHT, LIMIT_WEIGHT);
     same("most input", FELTLOQUAT_MOST_INPUT, LIMIT_INPUT);
-    same("text length", FELTLOQUAT_TEXT_LENGTH, 98304);
+    same("text length", FELTLOQUAT_TEXT_LENGTH, 131072);
     static const int numbers[][2] = {{FELTLOQUAT_SW, 0}, {FELTLOQUAT_SE, 1}, {FELTLOQUAT_NE, 2}, {FELTLOQUAT_NW, 3},
                                      {FELTLOQUAT_INSIDE, 1}, {FELTLOQUAT_OUTSIDE, 2}, {FELTLOQUAT_UNDECIDED, 3}};
     for (size_t i = 0; i < COUNT(numbers); i++) {

@@ -103,5 +103,5 @@ extern "C" {
         file_length: usize,
     ) -> WriteAnswer;
 
-    pub fn feltloquat_print_round(file: *const u8, file_length: usize, text: *mut [u8; 98_304]) -> usize;
+    pub fn feltloquat_print_round(file: *const u8, file_length: usize, text: *mut [u8; 131_072]) -> usize;
 }

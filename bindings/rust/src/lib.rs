@@ -386,7 +386,7 @@ pub fn write_round_into<Item: BoxItem>(boxes: &[Item], plugs: &[i32], file: &mut
 }
 
 /// How many bytes the text of [`print_round_into`] may need at most, for every input.
-pub const TEXT_LENGTH: usize = 98_304;
+pub const TEXT_LENGTH: usize = 131_072;
 
 /// What the printing program prints for a round file: one line `refused NUMBER PLACE` (12 for more than 65,536 bytes, then as
 /// [`read_round`], then as [`verdict`] does for the boxes); or `boxes COUNT plugs COUNT`, then per plug its number and a word, or its

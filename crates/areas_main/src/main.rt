@@ -5,6 +5,7 @@
 #![tactic(auto)]
 
 use areas::{CornersReply, OuterReply};
+use std::io::{self, Read};
 
 // What stands in a buffer before a call.
 const MARK: i32 = 77777;
@@ -14,71 +15,71 @@ const LIST: usize = 4104;
 
 const BUFFER: usize = 8200;
 
-fn print_outer(reply: OuterReply) {
+fn print_outer(output: &impl Print, reply: OuterReply) -> io::Result<()> {
     match reply {
         OuterReply::Vertices(count) => {
-            cases::print_text(b"outer");
-            cases::print_count(count);
+            cases::print_text(output, b"outer")?;
+            cases::print_count(output, count)
         }
-        OuterReply::Refused(refusal) => cases::print_refusal(refusal),
+        OuterReply::Refused(refusal) => cases::print_refusal(output, refusal),
     }
 }
 
-fn print_corners(reply: CornersReply) {
+fn print_corners(output: &impl Print, reply: CornersReply) -> io::Result<()> {
     match reply {
         CornersReply::Vertices(counts) => {
-            cases::print_text(b"corners");
-            cases::print_count(counts.southwest);
-            cases::print_count(counts.southeast);
-            cases::print_count(counts.northeast);
-            cases::print_count(counts.northwest);
+            cases::print_text(output, b"corners")?;
+            cases::print_count(output, counts.southwest)?;
+            cases::print_count(output, counts.southeast)?;
+            cases::print_count(output, counts.northeast)?;
+            cases::print_count(output, counts.northwest)
         }
-        CornersReply::Refused(refusal) => cases::print_refusal(refusal),
+        CornersReply::Refused(refusal) => cases::print_refusal(output, refusal),
     }
 }
 
-fn print_buffer(answer: &[i32]) {
-    cases::print_text(b":");
-    cases::print_numbers(answer);
-    cases::print_text(b"\n");
+fn print_buffer(output: &impl Print, answer: &[i32]) -> io::Result<()> {
+    cases::print_text(output, b":")?;
+    cases::print_numbers(output, answer)?;
+    cases::print_text(output, b"\n")
 }
 
-fn run_outer(boxes: &[i32], answer: &mut [i32]) {
-    print_outer(areas::outer_polygon(boxes, answer));
-    print_buffer(answer);
+fn run_outer(output: &impl Print, boxes: &[i32], answer: &mut [i32]) -> io::Result<()> {
+    print_outer(output, areas::outer_polygon(boxes, answer))?;
+    print_buffer(output, answer)
 }
 
-fn run_corners(boxes: &[i32], answer: &mut [i32]) {
-    print_corners(areas::corner_polygons(boxes, answer));
-    print_buffer(answer);
+fn run_corners(output: &impl Print, boxes: &[i32], answer: &mut [i32]) -> io::Result<()> {
+    print_corners(output, areas::corner_polygons(boxes, answer))?;
+    print_buffer(output, answer)
 }
 
-fn outer_case(boxes: &[i32]) {
+fn outer_case(input: &mut impl Read, output: &impl Print, boxes: &[i32]) -> io::Result<()> {
     let mut answer = [MARK; BUFFER];
-    let given = cases::read_front(&answer);
-    run_outer(boxes, &mut answer[..given]);
+    let given = cases::read_front(input, &answer);
+    run_outer(output, boxes, &mut answer[..given])
 }
 
-fn corners_case(boxes: &[i32]) {
+fn corners_case(input: &mut impl Read, output: &impl Print, boxes: &[i32]) -> io::Result<()> {
     let mut answer = [MARK; BUFFER];
-    let given = cases::read_front(&answer);
-    run_corners(boxes, &mut answer[..given]);
+    let given = cases::read_front(input, &answer);
+    run_corners(output, boxes, &mut answer[..given])
 }
 
-fn run_case(boxes: &mut [i32]) {
-    cases::read_over(boxes);
-    let lent = cases::read_front(boxes);
-    outer_case(&boxes[..lent]);
-    corners_case(&boxes[..lent]);
+fn run_case(input: &mut impl Read, output: &impl Print, boxes: &mut [i32]) -> io::Result<()> {
+    cases::read_over(input, boxes);
+    let lent = cases::read_front(input, boxes);
+    outer_case(input, output, &boxes[..lent])?;
+    corners_case(input, output, &boxes[..lent])
 }
 
-fn main() {
-    let mut list = [0i32; LIST];
-    let boxes: &mut [i32] = &mut list;
-    let count = cases::read_count();
-    let mut k: u32 = 0;
-    while k < count {
-        run_case(boxes);
-        k += 1;
+fn main(rt: HostRuntime) -> io::Result<()> {
+    let mut input = rt.stdin();
+    let output = rt.stdout();
+    let mut boxes = [0i32; LIST];
+    let count = cases::read_count(&mut input);
+    for _ in 0..count {
+        run_case(&mut input, &output, &mut boxes)?;
     }
+    Ok(())
 }

@@ -8,9 +8,10 @@ use Rattle.rounds.specs.Boxes.{all_corners}
 use Rattle.rounds.specs.Reasons.{EntriesHold}
 use Rattle.rounds.specs.declared.Box.{Box}
 use Rattle.cones.specs.Cones.{corner_point, Named, ConeSays}
-use Rattle.views.specs.Views.{NoneAt}
+use Rattle.views.specs.Views.{NoneAt, ViewSays}
 use Rattle.cones.specs.declared.CornerKey.{CornerKey}
 use Rattle.cones.specs.declared.Cone.{Cone}
+use Rattle.views.specs.declared.View.{View}
 use Rattle.balances.specs.declared.Balance.{Balance}
 use Rattle.balances.specs.declared.Balance.TheVariants as Balance'
 
@@ -46,3 +47,7 @@ pub record BalanceAmong (p : Point) (vs : List CornerKey) (r : Balance) : Type 0
 -- what the cone tells, whatever points they are, if none is the plug where it is not strictly inside
 pub record BalanceByCone (p : Point) (cone : Cone) (r : Balance) : Type 0 where
   pub says : (bs : List Box) (qs : List Point) → ConeSays bs qs p cone → (Supported (map (from 1 p) qs) → NoneAt p qs) → BalanceAt bs qs p r
+
+-- what the view tells, whatever points they are
+pub record BalanceBy (p : Point) (view : View) (r : Balance) : Type 0 where
+  pub says : (bs : List Box) (qs : List Point) → ViewSays bs qs p view → BalanceAt bs qs p r

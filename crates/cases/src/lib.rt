@@ -1,16 +1,31 @@
-// What the drivers share: a case's numbers from standard input, and what is printed of a reply.
+// What the drivers share: a case's numbers from the input, and what is printed of a reply.
 //
-// On standard input a count is four bytes, high byte first, and a number is the count that is its two's complement.
+// On the input a count is four bytes, high byte first, and a number is the count that is its two's complement. An
+// input that ends early, or a read of it that fails, leaves zeros. A write that fails is the caller's to answer.
 #![tactic(auto)]
 
-ghost use Rattle.std.specs.Prelude.{◌+◌, ◌<◌, ◌≤◌, length};
-ghost use Rattle.io.specs.Counts.{IsPrefixLen};
-ghost use Rattle.cases.specs.Fronts.{Front};
+ghost use Rattle.std.specs.Prelude.{◌+◌, ◌<◌, ◌≤◌, length, IfOk};
+ghost use Rattle.cases.specs.Fronts.{Front, IsPrefixLen};
 
-use libc::{STDIN_FILENO, STDOUT_FILENO};
 use rounds::Refusal;
+use std::io::{self, Read};
 
 // ---- read
+
+// Reads until the buffer is full, the input ends or a read fails, and says how many bytes it put at the front.
+fn read_full(input: &mut impl Read, buffer: &mut [u8]) -> usize
+    ensures { IsPrefixLen result buffer.new }
+{
+    let mut done: usize = 0;
+    while done < buffer.len() {
+        let more = input.read(&mut buffer[done..]).unwrap_or(0);
+        if more == 0 {
+            return done;
+        }
+        done += more;
+    }
+    done
+}
 
 // The count that four bytes are.
 fn count_of(a: u8, b: u8, c: u8, d: u8) -> u32 {
@@ -18,9 +33,9 @@ fn count_of(a: u8, b: u8, c: u8, d: u8) -> u32 {
 }
 
 // The next count.
-pub fn read_count() -> u32 {
+pub fn read_count(input: &mut impl Read) -> u32 {
     let mut bytes = [0u8; 4];
-    io::read_full(STDIN_FILENO, &mut bytes);
+    read_full(input, &mut bytes);
     count_of(bytes[0], bytes[1], bytes[2], bytes[3])
 }
 
@@ -33,15 +48,15 @@ fn signed(bits: u32) -> i32 {
 }
 
 // The next number.
-pub fn read_number() -> i32 {
-    signed(read_count())
+pub fn read_number(input: &mut impl Read) -> i32 {
+    signed(read_count(input))
 }
 
 // The next count, as the length of a part at the front of a list: no more than the list has.
-pub fn read_front(list: &[i32]) -> usize
+pub fn read_front(input: &mut impl Read, list: &[i32]) -> usize
     ensures { Front result list.now }
 {
-    let count = read_count() as usize;
+    let count = read_count(input) as usize;
     if count < list.len() {
         return count;
     }
@@ -49,115 +64,96 @@ pub fn read_front(list: &[i32]) -> usize
 }
 
 // Reads as many numbers as the list has.
-fn read_numbers(list: &mut [i32]) {
-    let mut k: usize = 0;
-    while k < list.len() {
-        list[k] = read_number();
-        k += 1;
+fn read_numbers(input: &mut impl Read, list: &mut [i32]) {
+    for number in list.iter_mut() {
+        *number = read_number(input);
     }
 }
 
 // Reads a count and so many numbers over the front of a list.
-pub fn read_over(list: &mut [i32]) {
-    let count = read_front(list);
-    read_numbers(&mut list[..count]);
+pub fn read_over(input: &mut impl Read, list: &mut [i32]) {
+    let count = read_front(input, list);
+    read_numbers(input, &mut list[..count]);
 }
 
 // The next count, as the length of a part at the front of some bytes: no more than there are.
-pub fn read_byte_front(bytes: &[u8]) -> usize
+pub fn read_byte_front(input: &mut impl Read, bytes: &[u8]) -> usize
     ensures { IsPrefixLen result bytes.now }
 {
-    io::count(read_count() as isize, bytes)
+    let count = read_count(input) as usize;
+    if count < bytes.len() {
+        return count;
+    }
+    bytes.len()
 }
 
 // Reads a count and so many bytes over the front of some bytes.
-pub fn read_bytes_over(bytes: &mut [u8]) {
-    let count = read_byte_front(bytes);
-    io::read_full(STDIN_FILENO, &mut bytes[..count]);
+pub fn read_bytes_over(input: &mut impl Read, bytes: &mut [u8]) {
+    let count = read_byte_front(input, bytes);
+    read_full(input, &mut bytes[..count]);
 }
 
 // ---- printed
 
-pub fn print_text(text: &[u8]) {
-    io::write_all(STDOUT_FILENO, text);
+pub fn print_text(output: &impl Print, text: &[u8]) -> io::Result<()> {
+    output.write_all(text)
 }
 
 // A space and a count.
-pub fn print_count(count: usize) {
-    print_text(b" ");
-    io::print_decimal(STDOUT_FILENO, count as u64);
+pub fn print_count(output: &impl Print, count: usize) -> io::Result<()> {
+    print!(output; " {count}")
 }
 
 // A refusal's number and place.
-pub fn print_refusal(refusal: Refusal) {
-    let cause = refusal.cause;
-    print_text(b"refused");
-    print_count(causes::number_of(cause) as usize);
-    print_count(refusal.place);
-}
-
-// A number that is not negative; 0 for one that is.
-fn natural(number: i32) -> u64 {
-    if 0 <= number {
-        return number as u64;
-    }
-    0
+pub fn print_refusal(output: &impl Print, refusal: Refusal) -> io::Result<()> {
+    print_text(output, b"refused")?;
+    print_count(output, causes::number_of(refusal.cause) as usize)?;
+    print_count(output, refusal.place)
 }
 
 // A space and a number with its sign.
-fn print_number(number: i32) {
-    if 0 <= number {
-        print_text(b" ");
-        io::print_decimal(STDOUT_FILENO, natural(number));
-        return;
-    }
-    print_text(b" -");
-    io::print_decimal(
-        STDOUT_FILENO,
-        std::num::wrapping_add_u64(natural(!number), 1),
-    );
+fn print_number(output: &impl Print, number: i32) -> io::Result<()> {
+    print!(output; " {number}")
 }
 
 // Prints the run of equal numbers from `first` to `k`, as one of them and how many, unless the next one is equal too.
 // Answers where the run of the next one starts.
-fn print_run(list: &[i32], first: usize, k: usize) -> usize
+fn print_run(output: &impl Print, list: &[i32], first: usize, k: usize) -> io::Result<usize>
     requires { (first ≤ k) × (k < length list.now) }
-    ensures { result ≤ k + 1 }
+    ensures { IfOk result (λ next. next ≤ k + 1) }
 {
     let next = k + 1;
     if next < list.len() {
         if list[next] == list[k] {
-            return first;
+            return Ok(first);
         }
     }
-    print_number(list[k]);
+    print_number(output, list[k])?;
     if first < k {
-        print_text(b"*");
-        io::print_decimal(STDOUT_FILENO, (next - first) as u64);
+        let count = next - first;
+        print!(output; "*{count}")?;
     }
-    next
+    Ok(next)
 }
 
 // Prints every number of a list, a run of equal ones as `number*count`.
-pub fn print_numbers(list: &[i32]) {
+pub fn print_numbers(output: &impl Print, list: &[i32]) -> io::Result<()> {
     let mut first: usize = 0;
-    let mut k: usize = 0;
-    while k < list.len() {
-        first = print_run(list, first, k);
-        k += 1;
+    for k in 0..list.len() {
+        first = print_run(output, list, first, k)?;
     }
+    Ok(())
 }
 
 // A byte as two digits of base sixteen.
-fn print_byte(byte: u8) {
-    io::print_hex(STDOUT_FILENO, byte as u64, 2);
+fn print_byte(output: &impl Print, byte: u8) -> io::Result<()> {
+    print!(output; "{byte:02x}")
 }
 
 // Prints every byte.
-pub fn print_bytes(bytes: &[u8]) {
-    let mut k: usize = 0;
-    while k < bytes.len() {
-        print_byte(bytes[k]);
-        k += 1;
+pub fn print_bytes(output: &impl Print, bytes: &[u8]) -> io::Result<()> {
+    for byte in bytes {
+        print_byte(output, *byte)?;
     }
+    Ok(())
 }

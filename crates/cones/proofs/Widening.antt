@@ -7,7 +7,7 @@ use Rattle.integers.proofs.Ring.{ring}
 use Rattle.integers.proofs.Expr.{#◌, ◌≐◌}
 use Rattle.integers.proofs.Order.{<→≤, ≡→≤}
 use Rattle.plane.specs.Points.{Point, signed_area, dot_product}
-use Rattle.plane.specs.Members.{All, none, ◌&◌, ◌∈◌, here}
+use Rattle.plane.specs.Members.{All, none, ◌&◌, here}
 use Rattle.plane.specs.Vectors.{from, Supported}
 use Rattle.plane.proofs.Lists.{all_at, all_imp, all_both, all_map, all_unmap, all_append, all_left, in_left, in_right}
 use Rattle.plane.proofs.Twins.{signed_areaᴱ, pt}

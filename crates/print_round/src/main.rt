@@ -6,9 +6,9 @@
 ghost use Rattle.std.specs.Prelude.{◌≤◌, length};
 ghost use Rattle.print_round.specs.Inputs.{Within, PrintingRoom};
 
-use libc::{STDERR_FILENO, STDIN_FILENO, STDOUT_FILENO};
 use plug_lines::MOST_VERTICES;
 use rounds::MOST_INPUT;
+use std::io::Read;
 use text_parts::PIECE_LENGTH;
 
 // One byte more than an input may have.
@@ -22,23 +22,22 @@ enum Input {
 }
 
 // One read: so many bytes at the front of the buffer, 0 at the end of the input.
-fn read_part(buffer: &mut [u8]) -> Input
+fn read_part(source: &mut impl Read, buffer: &mut [u8]) -> Input
     ensures { Within result buffer.new }
 {
-    let got = libc::read(STDIN_FILENO, buffer);
-    if got < 0 {
-        return Input::Failed;
+    match source.read(buffer) {
+        Ok(bytes) => Input::Read(bytes),
+        Err(_) => Input::Failed,
     }
-    Input::Read(io::count(got, buffer))
 }
 
 // Reads until the buffer is full, the input ends or a read fails.
-fn read_input(buffer: &mut [u8]) -> Input
+fn read_input(source: &mut impl Read, buffer: &mut [u8]) -> Input
     ensures { Within result buffer.new }
 {
     let mut done: usize = 0;
     while done < buffer.len() {
-        let part = read_part(&mut buffer[done..]);
+        let part = read_part(source, &mut buffer[done..]);
         let Input::Read(more) = part else {
             return Input::Failed;
         };
@@ -51,28 +50,28 @@ fn read_input(buffer: &mut [u8]) -> Input
 }
 
 // Prints the first so many bytes of a text, and says whether that went well.
-fn print_front(text: &[u8], bytes: usize) -> bool
+fn print_front(output: &impl Print, text: &[u8], bytes: usize) -> bool
     requires { bytes ≤ length text.now }
 {
-    io::write_all(STDOUT_FILENO, &text[..bytes])
+    output.write_all(&text[..bytes]).is_ok()
 }
 
 // Prints the text of an input, its opening first and then the plugs' lines piece by piece, until a write fails, and
 // says whether all went well.
-fn print_text(input: &[u8], vertices: &mut [u32], text: &mut [u8]) -> bool
+fn print_text(output: &impl Print, input: &[u8], vertices: &mut [u32], text: &mut [u8]) -> bool
     requires { PrintingRoom vertices.old text.old }
 {
     let opening = text_parts::open_text(input, vertices, text);
     let polygons = opening.polygons;
     let plugs = opening.plugs;
-    if !print_front(text, opening.bytes) {
+    if !print_front(output, text, opening.bytes) {
         return false;
     }
     let mut at = opening.at;
     let mut done: usize = 0;
     while done < plugs {
         let piece = text_parts::write_next_lines(input, vertices, polygons, plugs, at, done, text);
-        if !print_front(text, piece.bytes) {
+        if !print_front(output, text, piece.bytes) {
             return false;
         }
         at = piece.at;
@@ -82,20 +81,20 @@ fn print_text(input: &[u8], vertices: &mut [u32], text: &mut [u8]) -> bool
 }
 
 // Prints the text of an input, and tells a write that fails.
-fn print_input(input: &[u8]) {
+fn print_input(rt: &(impl Print + Eprint), input: &[u8]) {
     let mut vertices = [0u32; MOST_VERTICES];
     let mut text = [0u8; PIECE_LENGTH];
-    if !print_text(input, &mut vertices, &mut text) {
-        io::write_all(STDERR_FILENO, b"print_round: writing failed\n");
+    if !print_text(rt, input, &mut vertices, &mut text) {
+        let _ = eprintln!(rt; "print_round: writing failed");
     }
 }
 
-fn main() {
+fn main(rt: HostRuntime) {
     let mut input = [0u8; READ_LENGTH];
-    match read_input(&mut input) {
-        Input::Read(n) => print_input(&input[..n]),
+    match read_input(&mut rt.stdin(), &mut input) {
+        Input::Read(n) => print_input(&rt, &input[..n]),
         Input::Failed => {
-            io::write_all(STDERR_FILENO, b"print_round: reading failed\n");
+            let _ = eprintln!(rt; "print_round: reading failed");
         }
     }
 }

@@ -1,14 +1,11 @@
 -- The view that the code finds, step by step: a corner, the end of a box, boxes that are passed over. Assumes nothing.
 use mathlib.Core.Path.{◌≡◌, refl, sym, ◌∙◌, ap, ap₂}
-use mathlib.Core.Logic.{inl, inr}
 use mathlib.Core.Bool.{false, cond}
 use mathlib.Core.List.{List, [], ◌∷◌}
 use Prim.Native.Nat.{ℕ, zero, suc, ◌+◌, ◌-◌, ◌<◌, ◌≤◌}
 use native.Mathlib.Omega.{arith}
 use lib.ListN.{length, drop, drop_of_length-le, length-map}
 use lib.Seq.{drop-cons}
-use types.Run.{OneOf}
-use denote.Enum.Declared.{tag_of}
 use Rattle.plane.specs.Members.{All, none, ◌&◌}
 use Rattle.plane.proofs.Lists.{map_at}
 use Rattle.rounds.specs.declared.Box.{Box}
@@ -17,7 +14,6 @@ use Rattle.cones.specs.Wider.{numbered, is_around}
 use Rattle.cones.specs.declared.CornerKey.{CornerKey}
 use Rattle.cones.specs.declared.Cone.{Cone}
 use Rattle.cones.specs.declared.Cone.TheVariants.{Nothing, Ray, Line, Wedge, Half, Around}
-use Rattle.cones.specs.contracts.Cone as C
 use Rattle.passes.specs.Passes.{nth_box, names_in, keys_in, Keeps, KeepsBox, Passes}
 use Rattle.passes.specs.declared.CornerSet.{CornerSet}
 use Rattle.passes.specs.declared.Met.{Met}
@@ -38,21 +34,14 @@ abbrev pub rest : ℕ → CornerSet → ℕ → ℕ → View → List Box → Vi
 rest plug set n j view [] = view
 rest plug set n j view (b ∷ bs) = after plug set n (view_with_all plug view (drop j (keys_in set n b))) bs
 
--- a cone that is none of the other cases, by its tag
-pub not_around : (cone : Cone) → OneOf (0 ∷ 1 ∷ 2 ∷ 3 ∷ 4 ∷ []) (tag_of C.the_type cone) → is_around cone ≡ false
+-- a cone that is none of the other cases
+pub not_around : (cone : Cone) → ((a b c : CornerKey) → cone ≡ Around a b c → ⊥) → is_around cone ≡ false
 not_around Nothing h = refl
 not_around (Ray a) h = refl
 not_around (Line a b) h = refl
 not_around (Wedge a b) h = refl
 not_around (Half a b) h = refl
-not_around (Around a b c) h = absurd (go h)
-  where
-    go : OneOf (0 ∷ 1 ∷ 2 ∷ 3 ∷ 4 ∷ []) 5 → ⊥
-    go (inl e) = omega arith
-    go (inr (inl e)) = omega arith
-    go (inr (inr (inl e))) = omega arith
-    go (inr (inr (inr (inl e)))) = omega arith
-    go (inr (inr (inr (inr e)))) = omega arith
+not_around (Around a b c) h = absurd (h a b c refl)
 
 module _ (plug : ℕ) (set : CornerSet) where
   pub rest_all : (n : ℕ) (view : View) (bs : List Box) → rest plug set n 0 view bs ≡ looked_over plug set n view bs

@@ -47,6 +47,11 @@ ViewSays bs qs p view = Says bs qs p view.cone view.met
 abbrev pub CornerViewSays : List Box → Corner → Point → View → Type 0
 CornerViewSays bs corner p view = ViewSays bs (corners_of corner bs) p view
 
+-- some points have the view
+pub record Viewed (bs : List Box) (p : Point) (view : View) : Type 0 where
+  pub points : List Point
+  pub says : ViewSays bs points p view
+
 -- those corners of every box, box by box
 abbrev pub corners_by : CornerSet → List Box → List Point
 corners_by set [] = []

@@ -1,0 +1,19 @@
+-- `balances::balance_between` meets its contract: neither dot product is less than 0. Assumes nothing.
+use mathlib.Core.Path.{ap, ap₂}
+use lib.IntN.{nat_abs}
+use Rattle.cones.specs.Cones.{entry_of}
+use Rattle.balances.specs.declared.Balance.TheVariants.{Reason}
+use Rattle.balances.proofs.Answering.{past_a, past_b}
+use Rattle.balances.proofs.balance_between.Goals as goal
+
+pub positive_dot_product-at_a-requires : goal.positive_dot_product-at_a-requires
+positive_dot_product-at_a-requires c = let w = c.requires.1 in record { key = (w.key_b, w.key_a, c.requires.0); pos_bound = past_b _ _ _ w }
+
+pub positive_dot_product-at_b-requires : goal.positive_dot_product-at_b-requires
+positive_dot_product-at_b-requires c = let w = c.requires.1 in record { key = (w.key_a, w.key_b, c.requires.0); pos_bound = past_a _ _ _ w }
+
+pub returns : goal.returns
+returns c =
+    rw (c.entry_of.ensures, c.entry_of-2.ensures, c.entry_of-3.ensures)
+    (ap₂ (λ m n. Reason (entry_of c.args.a m) (entry_of c.args.b n) (entry_of c.args.a 0))
+    (ap nat_abs c.positive_dot_product-at_a.ensures) (ap nat_abs c.positive_dot_product-at_b.ensures))

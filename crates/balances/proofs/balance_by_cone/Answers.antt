@@ -1,0 +1,47 @@
+-- `balances::balance_by_cone` meets its contract: the cone is the case that is matched. Assumes nothing.
+use mathlib.Core.Path.{◌≡◌, refl, sym, ◌∙◌, ap, subst}
+use Prim.Native.Nat.{ℕ}
+use Rattle.turns.specs.Keys.{point_of}
+use Rattle.cones.specs.Cones.{Known}
+use Rattle.cones.specs.declared.Cone.{Cone}
+use Rattle.balances.specs.Balancing.{balance_of_cone}
+use Rattle.balances.specs.declared.Balance.{Balance}
+use Rattle.balances.proofs.Answering.{line_between, half_between, around_triangle}
+use Rattle.balances.proofs.balance_by_cone.Goals as goal
+
+-- what is found of the case is found of the cone
+same : (plug : ℕ) {cone case : Cone} {r : Balance} → cone ≡ case → r ≡ balance_of_cone plug case → r ≡ balance_of_cone plug cone
+same plug e f = f ∙ ap (balance_of_cone plug) (sym e)
+
+pub balance_between-requires : goal.balance_between-requires
+balance_between-requires c =
+    let k = subst (Known (point_of c.args.plug)) c.in-Line.is c.requires.1 in
+    (c.requires.0, line_between _ _ _ k.says)
+
+pub balance_between-requires-in-Half : goal.balance_between-requires-in-Half
+balance_between-requires-in-Half c =
+    let k = subst (Known (point_of c.args.plug)) c.in-Half.is c.requires.1 in
+    (c.requires.0, half_between _ _ _ k.says)
+
+pub balance_in_triangle-requires : goal.balance_in_triangle-requires
+balance_in_triangle-requires c =
+    let k = subst (Known (point_of c.args.plug)) c.in-Around.is c.requires.1 in
+    (c.requires.0, around_triangle _ _ _ _ k.says)
+
+pub returns-in-Nothing : goal.returns-in-Nothing
+returns-in-Nothing c = same c.args.plug c.in-Nothing.is refl
+
+pub returns-in-Ray : goal.returns-in-Ray
+returns-in-Ray c = same c.args.plug c.in-Ray.is refl
+
+pub returns-in-Line : goal.returns-in-Line
+returns-in-Line c = same c.args.plug c.in-Line.is c.balance_between.ensures
+
+pub returns-in-Wedge : goal.returns-in-Wedge
+returns-in-Wedge c = same c.args.plug c.in-Wedge.is refl
+
+pub returns-in-Half : goal.returns-in-Half
+returns-in-Half c = same c.args.plug c.in-Half.is c.balance_between-in-Half.ensures
+
+pub returns-in-Around : goal.returns-in-Around
+returns-in-Around c = same c.args.plug c.in-Around.is c.balance_in_triangle.ensures

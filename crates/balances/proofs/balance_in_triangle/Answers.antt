@@ -1,0 +1,24 @@
+-- `balances::balance_in_triangle` meets its contract: none of the three areas is less than 0. Assumes nothing.
+use mathlib.Core.Path.{◌≡◌, ap}
+use Prim.Native.Nat.{ℕ}
+use lib.IntN.{nat_abs}
+use Rattle.integers.proofs.Order.{<→≤}
+use Rattle.cones.specs.Cones.{entry_of}
+use Rattle.cones.specs.declared.CornerKey.{CornerKey}
+use Rattle.balances.specs.declared.Balance.TheVariants.{Reason}
+use Rattle.balances.proofs.balance_in_triangle.Goals as goal
+
+pub positive_area-at_a-requires : goal.positive_area-at_a-requires
+positive_area-at_a-requires c = let w = c.requires.1 in record { key = (c.requires.0, w.key_b, w.key_c); pos_bound = <→≤ w.of_b_c }
+
+pub positive_area-at_b-requires : goal.positive_area-at_b-requires
+positive_area-at_b-requires c = let w = c.requires.1 in record { key = (c.requires.0, w.key_c, w.key_a); pos_bound = <→≤ w.of_c_a }
+
+pub returns : goal.returns
+returns c =
+    rw (c.entry_of.ensures, c.entry_of-2.ensures, c.entry_of-3.ensures)
+    (weighed c.args.a c.args.b c.args.c (ap nat_abs c.positive_area-at_a.ensures) (ap nat_abs c.positive_area-at_b.ensures) (ap nat_abs c.positive_area-at_c.ensures))
+  where
+    -- equal weights
+    weighed : (u v w : CornerKey) {l m n l' m' n' : ℕ} → l ≡ l' → m ≡ m' → n ≡ n' → Reason (entry_of u l) (entry_of v m) (entry_of w n) ≡ Reason (entry_of u l') (entry_of v m') (entry_of w n')
+    weighed u v w e f g = λ i. Reason (entry_of u (e i)) (entry_of v (f i)) (entry_of w (g i))

@@ -1,0 +1,43 @@
+-- `balances::balance_of` meets its contract: the south-west corners give entries, or the corners of every box are looked at. Assumes nothing.
+use mathlib.Core.Path.{◌≡◌, sym, ◌∙◌, ap, subst}
+use mathlib.Core.List.{List}
+use Prim.Native.Nat.{ℕ}
+use Rattle.turns.specs.Keys.{point_of}
+use Rattle.rounds.specs.Boxes.{boxes_of, corners_of}
+use Rattle.rounds.specs.declared.Box.{Box}
+use Rattle.rounds.specs.declared.Corner.TheVariants.{SouthWest}
+use Rattle.cones.specs.Cones.{Known}
+use Rattle.cones.proofs.Wider.{says_keyed}
+use Rattle.passes.specs.declared.CornerSet.TheVariants.{Four}
+use Rattle.views.specs.Looking.{looked_over}
+use Rattle.views.specs.declared.View.{View}
+use Rattle.views.proofs.Viewing.{looks_over}
+use Rattle.balances.specs.Balancing.{balance_of_view, ◌orBalance◌, balance_of}
+use Rattle.balances.specs.declared.Balance.{Balance}
+use Rattle.balances.proofs.balance_of.Goals as goal
+
+-- what the south-west corners give decides
+by-sw : (plug : ℕ) (bs : List Box) (view : View) {r : Balance} → balance_of_view plug view ≡ r
+    → r orBalance balance_of_view plug (looked_over plug Four 1 view bs) ≡ balance_of plug bs view
+by-sw plug bs view e = ap (λ x. x orBalance balance_of_view plug (looked_over plug Four 1 view bs)) (sym e)
+
+pub returns-in-Reason : goal.returns-in-Reason
+returns-in-Reason c = by-sw c.args.plug (boxes_of c.args.boxes.now) c.args.view (sym c.balance_by-sw.ensures ∙ c.in-Reason.is)
+
+pub look_over-all-requires : goal.look_over-all-requires
+look_over-all-requires c =
+    let bs = boxes_of c.args.boxes.now in
+    (c.requires.box_list.0, c.requires.box_list.1, says_keyed bs (corners_of SouthWest bs) (point_of c.args.plug) c.args.view.cone c.requires.corner_view_says.of_cone)
+
+pub balance_by-requires : goal.balance_by-requires
+balance_by-requires c =
+    let bs = boxes_of c.args.boxes.now in (
+      c.requires.box_list.1,
+      subst (λ (v : View). Known (point_of c.args.plug) v.cone) (sym c.look_over-all.ensures)
+          (record { boxes = _; points = _; says = ((looks_over c.args.plug bs c.requires.box_list.0.in_span Four c.args.view).says (corners_of SouthWest bs) c.requires.corner_view_says).of_cone }),
+    )
+
+pub returns : goal.returns
+returns c =
+    c.balance_by.ensures ∙ ap (balance_of_view c.args.plug) c.look_over-all.ensures
+    ∙ by-sw c.args.plug (boxes_of c.args.boxes.now) c.args.view (sym c.balance_by-sw.ensures ∙ c.in_default.is)

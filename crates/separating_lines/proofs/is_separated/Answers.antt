@@ -1,0 +1,15 @@
+-- `separating_lines::is_separated` meets its contract. Assumes nothing.
+use mathlib.Core.Path.{sym, subst}
+use mathlib.Core.Bool.{true≢false}
+use Rattle.plane.proofs.Lists.{first, rest}
+use Rattle.cones.specs.Wider.{Keyed}
+use Rattle.cones.specs.declared.Cone.TheVariants.{Wedge}
+use Rattle.separating_lines.proofs.is_separated.Goals as goal
+
+pub returns-in_default : goal.returns-in_default
+returns-in_default c = record { separated = λ e. absurd (true≢false (sym e)) }
+
+pub is_left_of_all-requires : goal.is_left_of_all-requires
+is_left_of_all-requires c =
+    let k : Keyed (Wedge c.in-Wedge.a c.in-Wedge.b) = subst Keyed c.in-Wedge.is c.requires.1 in
+    (c.requires.0, first k, first (rest k), c.requires.2)

@@ -1,0 +1,96 @@
+-- `supports::is_in_triangle` meets its contract: three corners that wind round the plug. Assumes nothing.
+use mathlib.Core.Path.{◌≡◌, refl, sym, ◌∙◌, subst}
+use mathlib.Core.Bool.{Bool, true, false, ◌&&◌, true≢false}
+use mathlib.Core.List.{[], ◌∷◌}
+use Prim.Native.Nat.{◌-◌, ◌/◌, ◌≤◌, ◌<◌}
+use native.Mathlib.Omega.{arith}
+use lib.IntN.{pos}
+use lib.ListN.{length}
+use Rattle.integers.proofs.Machine.{lt_z_true}
+use Rattle.plane.specs.Points.{Point, point}
+use Rattle.plane.specs.Members.{◌∈◌, none, ◌&◌}
+use Rattle.plane.proofs.Lists.{in_by_index}
+use Rattle.plane.proofs.Winding.{winding_within}
+use Rattle.turns.specs.Keys.{point_of}
+use Rattle.rounds.specs.Boxes.{boxes_of, corners_of}
+use Rattle.rounds.proofs.Rows.{boxes_length}
+use Rattle.corners.specs.Corners.{nth_corner}
+use Rattle.corners.proofs.Places.{corners_length}
+use Rattle.cones.specs.Cones.{Named}
+use Rattle.cones.specs.declared.CornerKey.{CornerKey}
+use Rattle.cones.proofs.Turns.{cycle_neg_back}
+use Rattle.supports.proofs.is_in_triangle.Goals as goal
+use Rattle.supports.proofs.is_in_triangle.Goals.{Start}
+
+-- a box's number is one of the list's, and the box stands one place before it
+module _ (s : Start) {v : CornerKey} (n : Named (boxes_of s.args.boxes.now) v) where
+  small : v.number ≤ 1024
+  small = omega (arith, n.most, boxes_length s.args.boxes.now, s.requires.box_list.0.few)
+
+  place : v.number - 1 < length s.args.boxes.now / 4
+  place = omega (arith, n.least, n.most, boxes_length s.args.boxes.now)
+
+  -- that one corner of it is a corner of the list
+  listed : (q : Point) → q ≡ nth_corner s.args.corner (boxes_of s.args.boxes.now) (v.number - 1) → q ∈ corners_of s.args.corner (boxes_of s.args.boxes.now)
+  listed q e =
+      let l : v.number - 1 < length (corners_of s.args.corner (boxes_of s.args.boxes.now)) = omega (arith, place, corners_length s.args.corner s.args.boxes.now) in
+      subst (λ x. x ∈ corners_of s.args.corner (boxes_of s.args.boxes.now)) (sym e) (in_by_index (point (pos 0) (pos 0)) _ (v.number - 1) l)
+
+all_three : (t u v : Bool) → t && (u && v) ≡ true → (t ≡ true) × (u ≡ true) × (v ≡ true)
+all_three true true true e = (refl, refl, refl)
+all_three true true false e = absurd (true≢false (sym e))
+all_three true false v e = absurd (true≢false (sym e))
+all_three false u v e = absurd (true≢false (sym e))
+
+pub overflow_cast-a : goal.overflow_cast-a
+overflow_cast-a c = omega (arith, small c.before c.requires.named.0)
+
+pub overflow_sub-a : goal.overflow_sub-a
+overflow_sub-a c = c.requires.named.0.least
+
+pub corner_key-u-requires : goal.corner_key-u-requires
+corner_key-u-requires c = (c.requires.box_list.0, place c.before c.requires.named.0)
+
+pub overflow_cast-b : goal.overflow_cast-b
+overflow_cast-b c = omega (arith, small c.before.before.before c.requires.named.1)
+
+pub overflow_sub-b : goal.overflow_sub-b
+overflow_sub-b c = c.requires.named.1.least
+
+pub corner_key-v-requires : goal.corner_key-v-requires
+corner_key-v-requires c = (c.requires.box_list.0, place c.before.before.before c.requires.named.1)
+
+pub overflow_cast-c : goal.overflow_cast-c
+overflow_cast-c c = omega (arith, small c.before.before.before.before.before c.requires.named.2)
+
+pub overflow_sub-c : goal.overflow_sub-c
+overflow_sub-c c = c.requires.named.2.least
+
+pub corner_key-w-requires : goal.corner_key-w-requires
+corner_key-w-requires c = (c.requires.box_list.0, place c.before.before.before.before.before c.requires.named.2)
+
+pub turns_left-requires : goal.turns_left-requires
+turns_left-requires c = (c.requires.box_list.1, c.corner_key-u.ensures.key, c.corner_key-v.ensures.key)
+
+pub turns_left-requires-2 : goal.turns_left-requires-2
+turns_left-requires-2 c = (c.requires.box_list.1, c.corner_key-v.ensures.key, c.corner_key-w.ensures.key)
+
+pub turns_left-requires-3 : goal.turns_left-requires-3
+turns_left-requires-3 c = (c.requires.box_list.1, c.corner_key-w.ensures.key, c.corner_key-u.ensures.key)
+
+pub returns : goal.returns
+returns c =
+    let p = point_of c.args.plug in
+    let ku = c.corner_key-u in
+    let kv = c.corner_key-v in
+    let kw = c.corner_key-w in
+    let u = point_of ku.result in
+    let v = point_of kv.result in
+    let w = point_of kw.result in
+    record {
+      surrounded = λ e.
+          let t = all_three _ _ _ e in
+          winding_within p u (w ∷ v ∷ []) _
+          (cycle_neg_back p u w (lt_z_true (sym c.turns_left-3.ensures ∙ t.2)), (cycle_neg_back p w v (lt_z_true (sym c.turns_left-2.ensures ∙ t.1)), cycle_neg_back p v u (lt_z_true (sym c.turns_left.ensures ∙ t.0))))
+          (listed c.before.before.before.before.before.before.before.before.before c.requires.named.0 u ku.ensures.is & listed c.before.before.before.before.before.before.before.before.before c.requires.named.2 w kw.ensures.is & listed c.before.before.before.before.before.before.before.before.before c.requires.named.1 v kv.ensures.is & none);
+    }

@@ -1,0 +1,32 @@
+-- `supports::support_at` meets its contract: three corners round the plug answer as the cone would, or the cone does. Assumes nothing.
+use mathlib.Core.Path.{sym, ◌∙◌, ap, subst}
+use Rattle.turns.specs.Keys.{point_of}
+use Rattle.rounds.specs.Boxes.{boxes_of, corners_of}
+use Rattle.rounds.specs.declared.Corner.TheVariants.{SouthWest}
+use Rattle.cones.specs.Cones.{ConeSays}
+use Rattle.cones.specs.Wider.{Keyed}
+use Rattle.views.specs.declared.View.{View}
+use Rattle.views.proofs.Viewing.{view_keyed}
+use Rattle.supports.specs.Supporting.{support_of_cone}
+use Rattle.supports.proofs.Answering.{corner_surrounds}
+use Rattle.supports.proofs.support_at.Goals as goal
+
+pub is_in_triangle-requires : goal.is_in_triangle-requires
+is_in_triangle-requires c =
+    let r = subst (ConeSays (boxes_of c.args.boxes.now) (corners_of SouthWest (boxes_of c.args.boxes.now)) (point_of c.args.plug)) c.in-Around.is c.requires.cone_says in
+    record { box_list = c.requires.box_list; named = (r.seen_a.named, r.seen_b.named, r.seen_c.named) }
+
+pub returns-then-is_in_triangle : goal.returns-then-is_in_triangle
+returns-then-is_in_triangle c =
+    corner_surrounds c.args.plug c.args.corner (boxes_of c.args.boxes.now) (c.is_in_triangle.ensures.surrounded c.if-is_in_triangle.true) c.requires.box_list.0.in_span
+
+pub view_of-view-requires : goal.view_of-view-requires
+view_of-view-requires c = c.requires.box_list
+
+pub support_by-requires : goal.support_by-requires
+support_by-requires c =
+    (c.requires.box_list.1, subst (λ (v : View). Keyed v.cone) (sym c.view_of-view.ensures) (view_keyed c.args.plug (boxes_of c.args.boxes.now) c.requires.box_list.0.in_span c.args.corner))
+
+pub returns : goal.returns
+returns c =
+    c.support_by.ensures ∙ ap (λ (w : View). support_of_cone c.args.plug w.cone c.args.corner) c.view_of-view.ensures

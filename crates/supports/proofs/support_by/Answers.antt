@@ -1,0 +1,49 @@
+-- `supports::support_by` meets its contract: the cone is the case that is matched. Assumes nothing.
+use mathlib.Core.Path.{◌≡◌, refl, sym, ◌∙◌, ap, subst}
+use Prim.Native.Nat.{ℕ}
+use Rattle.rounds.specs.declared.Corner.{Corner}
+use Rattle.cones.specs.Wider.{Keyed}
+use Rattle.cones.specs.declared.Cone.{Cone}
+use Rattle.cones.proofs.Wider.{first_key}
+use Rattle.supports.specs.Supporting.{support_of_cone}
+use Rattle.supports.specs.declared.Support.{Support}
+use Rattle.supports.specs.declared.Support.TheVariants.{Reason}
+use Rattle.supports.proofs.support_by.Goals as goal
+
+-- what is found of the case is found of the cone
+same : (plug : ℕ) (corner : Corner) {cone case : Cone} {r : Support} → cone ≡ case → r ≡ support_of_cone plug case corner → r ≡ support_of_cone plug cone corner
+same plug corner e f = f ∙ ap (λ x. support_of_cone plug x corner) (sym e)
+
+pub square_to-requires : goal.square_to-requires
+square_to-requires c =
+    (first_key (subst Keyed c.in-Ray.is c.requires.1), c.requires.0)
+
+pub square_to-requires-in-Line : goal.square_to-requires-in-Line
+square_to-requires-in-Line c =
+    (first_key (subst Keyed c.in-Line.is c.requires.1), c.requires.0)
+
+pub square_to-requires-in-Wedge : goal.square_to-requires-in-Wedge
+square_to-requires-in-Wedge c =
+    (first_key (subst Keyed c.in-Wedge.is c.requires.1), c.requires.0)
+
+pub square_to-requires-in-Half : goal.square_to-requires-in-Half
+square_to-requires-in-Half c =
+    (first_key (subst Keyed c.in-Half.is c.requires.1), c.requires.0)
+
+pub returns-in-Nothing : goal.returns-in-Nothing
+returns-in-Nothing c = same c.args.plug c.args.corner c.in-Nothing.is refl
+
+pub returns-in-Ray : goal.returns-in-Ray
+returns-in-Ray c = same c.args.plug c.args.corner c.in-Ray.is (ap Reason c.square_to.ensures)
+
+pub returns-in-Line : goal.returns-in-Line
+returns-in-Line c = same c.args.plug c.args.corner c.in-Line.is (ap Reason c.square_to-in-Line.ensures)
+
+pub returns-in-Wedge : goal.returns-in-Wedge
+returns-in-Wedge c = same c.args.plug c.args.corner c.in-Wedge.is (ap Reason c.square_to-in-Wedge.ensures)
+
+pub returns-in-Half : goal.returns-in-Half
+returns-in-Half c = same c.args.plug c.args.corner c.in-Half.is (ap Reason c.square_to-in-Half.ensures)
+
+pub returns-in-Around : goal.returns-in-Around
+returns-in-Around c = same c.args.plug c.args.corner c.in-Around.is refl
