@@ -12,7 +12,6 @@ use Rattle.plane.specs.Points.{Point}
 use Rattle.rounds.specs.Boxes.{boxes_of}
 use Rattle.rounds.specs.declared.Box.{Box}
 use Rattle.rounds.specs.declared.Cause.{Cause}
-use Rattle.rounds.specs.declared.Cause.TheVariants as Cause
 use Rattle.rounds.specs.Refusals.{Fault, fault, number_of, when, ◌or_else◌, beyond, edge_beyond, edges_reversed, box_fault, each_box_fault, box_list_fault, plug_fault, verdict_fault}
 use Rattle.rounds.specs.Replies.{refused, reply_under}
 use Rattle.rounds.specs.Words.{word_of}

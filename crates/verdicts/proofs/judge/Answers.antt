@@ -1,0 +1,57 @@
+-- `verdicts::judge` meets its contract: by what the corners tell each driver. Assumes nothing.
+use mathlib.Core.Path.{◌≡◌, sym, ◌∙◌, ap, ap₂, subst}
+use mathlib.Core.List.{List}
+use Prim.Native.Nat.{ℕ}
+use Rattle.plane.specs.Members.{All}
+use Rattle.turns.specs.Keys.{point_of}
+use Rattle.rounds.specs.Boxes.{boxes_of, corners_of, BoxInSpan}
+use Rattle.rounds.specs.declared.Box.{Box}
+use Rattle.rounds.specs.declared.Corner.TheVariants.{SouthWest}
+use Rattle.cones.proofs.Wider.{says_keyed}
+use Rattle.views.specs.Views.{CornerViewSays}
+use Rattle.views.specs.Looking.{view_of}
+use Rattle.views.specs.declared.View.{View}
+use Rattle.views.proofs.Viewing.{view_says}
+use Rattle.supports.specs.Supporting.{support_of}
+use Rattle.verdicts.specs.Answers.{verdict_by, verdict_from}
+use Rattle.verdicts.proofs.Answering.{outside_from}
+use Rattle.verdicts.proofs.judge.Goals as goal
+
+-- the view of the south-west corners, what it says, and what is given by it
+says : (plug : ℕ) (bs : List Box) {view : View} → All BoxInSpan bs → view ≡ view_of plug SouthWest bs → CornerViewSays bs SouthWest (point_of plug) view
+says plug bs all e = subst (CornerViewSays bs SouthWest (point_of plug)) (sym e) (view_says plug bs all SouthWest)
+
+given : (plug : ℕ) (bs : List Box) {view : View} → view ≡ view_of plug SouthWest bs → verdict_from plug bs view ≡ verdict_from plug bs (view_of plug SouthWest bs)
+given plug bs e = ap (verdict_from plug bs) e
+
+pub is_separated-requires : goal.is_separated-requires
+is_separated-requires c =
+    let bs = boxes_of c.args.boxes.now in
+    (c.requires.0, says_keyed bs (corners_of SouthWest bs) (point_of c.args.plug) c.view_of-view.result.cone (says c.args.plug bs c.requires.0.in_span c.view_of-view.ensures).of_cone, c.requires.1)
+
+pub returns-then-is_separated : goal.returns-then-is_separated
+returns-then-is_separated c =
+    outside_from c.args.plug c.requires.1 (boxes_of c.args.boxes.now) c.requires.0.in_span c.requires.0.ordered (c.is_separated.ensures.separated c.if-is_separated.true)
+
+pub balance_of-balance-requires : goal.balance_of-balance-requires
+balance_of-balance-requires c =
+    record { box_list = c.requires; corner_view_says = says c.args.plug (boxes_of c.args.boxes.now) c.requires.0.in_span c.view_of-view.ensures }
+
+pub returns-in_default : goal.returns-in_default
+returns-in_default c =
+    let bs = boxes_of c.args.boxes.now in
+    ap (λ b. verdict_by b (support_of c.args.plug bs c.view_of-view.result)) (sym c.in_default.is ∙ c.balance_of-balance.ensures) ∙ given c.args.plug bs c.view_of-view.ensures
+
+pub support_of-support-requires : goal.support_of-support-requires
+support_of-support-requires c =
+    record { box_list = c.requires; corner_view_says = says c.args.plug (boxes_of c.args.boxes.now) c.requires.0.in_span c.view_of-view.ensures }
+
+pub returns-in_default-support : goal.returns-in_default-support
+returns-in_default-support c =
+    ap₂ verdict_by (sym c.in-Reason.is ∙ c.balance_of-balance.ensures) (sym c.in_default-support.is ∙ c.support_of-support.ensures)
+    ∙ given c.args.plug (boxes_of c.args.boxes.now) c.view_of-view.ensures
+
+pub returns : goal.returns
+returns c =
+    ap₂ verdict_by (sym c.in-Reason.is ∙ c.balance_of-balance.ensures) (sym c.in-Reason-support.is ∙ c.support_of-support.ensures)
+    ∙ given c.args.plug (boxes_of c.args.boxes.now) c.view_of-view.ensures
