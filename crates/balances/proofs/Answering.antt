@@ -31,9 +31,9 @@ use Rattle.views.specs.Views.{IsPlug, MetSays, ViewSays, CornerViewSays, corners
 use Rattle.views.specs.Looking.{looked_over}
 use Rattle.views.specs.declared.View.{View}
 use Rattle.views.proofs.Viewing.{looks_over}
-use Rattle.passes.specs.declared.Met.{Met}
-use Rattle.passes.specs.declared.Met.TheVariants.{Nowhere, At}
-use Rattle.passes.specs.declared.CornerSet.TheVariants.{Four}
+use Rattle.cone_passes.specs.declared.Met.{Met}
+use Rattle.cone_passes.specs.declared.Met.TheVariants.{Nowhere, At}
+use Rattle.cone_passes.specs.declared.CornerSet.TheVariants.{Four}
 use Rattle.balances.specs.Balances.{BetweenCorners, InTriangle, BalanceAt, BalanceSays, BalanceAmong, BalanceByCone}
 use Rattle.balances.specs.Balancing.{between_two, among_three, balance_of_cone, balance_by_met, balance_of_view, ◌orBalance◌, balance_of}
 use Rattle.cones.specs.declared.CornerKey.{CornerKey}

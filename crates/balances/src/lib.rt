@@ -11,7 +11,7 @@ ghost use Rattle.balances.specs.Balances.{BetweenCorners, InTriangle};
 ghost use Rattle.balances.specs.Balancing.{between_two, among_three, balance_of_cone, balance_of_view, balance_of};
 
 use cones::{Cone, CornerKey};
-use passes::{CornerSet, Met};
+use cone_passes::{CornerSet, Met};
 use rounds::{Corner, Entry};
 use views::View;
 

@@ -16,7 +16,7 @@ use Rattle.plane.proofs.PolygonFacts.{apart_length}
 use Rattle.plane.proofs.Winding.{winding_within}
 use Rattle.turns.specs.Keys.{Key}
 use Rattle.rounds.specs.declared.Box.{Box}
-use Rattle.cones.specs.Cones.{corner_point, Named, Seen, AllInWedge, IsAround, Widened}
+use Rattle.cones.specs.Cones.{corner_point, Named, Seen, AllOnLine, AllInWedge, IsAround, Widened}
 use Rattle.cones.specs.declared.CornerKey.{CornerKey}
 use Rattle.cones.specs.declared.Cone.TheVariants.{Nothing, Ray, Line, Wedge, Half, Around}
 use Rattle.cones.proofs.Turns.{back_pos, back_zero, back_ahead, cycle_neg, cycle_neg_back, area_at, apart_a, apart_b, apart_opposite, ray_left, ray_right, flip_nn, flip_pos, flip_neg, new_right, new_left, opposite_b, opposite_a}
@@ -44,7 +44,7 @@ around_more {qs = qs} {p = p} more h =
     }
 
 -- a point of the wedge leaves it as it is
-wedge_more : {bs : List Box} {qs : List Point} (p q : Point) (a b : CornerKey) → pos 0 ≤ℤ signed_area p (corner_point a) q → pos 0 ≤ℤ signed_area p q (corner_point b)
+pub wedge_more : {bs : List Box} {qs : List Point} (p q : Point) (a b : CornerKey) → pos 0 ≤ℤ signed_area p (corner_point a) q → pos 0 ≤ℤ signed_area p q (corner_point b)
     → AllInWedge bs qs p a b → AllInWedge bs (qs ++ (q ∷ [])) p a b
 wedge_more p q a b h g r =
     record {
@@ -54,6 +54,11 @@ wedge_more p q a b h g r =
       from_a = all_append r.from_a (h & none);
       to_b = all_append r.to_b (g & none);
     }
+
+-- a point of the line leaves it as it is
+pub line_more : {bs : List Box} {qs : List Point} (p q : Point) (a b : CornerKey) → signed_area p (corner_point a) q ≡ pos 0 → AllOnLine bs qs p a b → AllOnLine bs (qs ++ (q ∷ [])) p a b
+line_more p q a b h r =
+    record { seen_a = seen_more (q ∷ []) r.seen_a; seen_b = seen_more (q ∷ []) r.seen_b; opposite = r.opposite; in_line = all_append r.in_line (h & none) }
 
 module _ (p : Point) (k : CornerKey) (hk : Key k.key) where
   abbrev v : Point

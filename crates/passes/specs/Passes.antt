@@ -1,17 +1,39 @@
--- The corners of a box that are looked at, and boxes whose corners leave the cone as it is. Definitions only.
-use Rattle.std.specs.Prelude.{◌≡◌, false, List, [], ◌∷◌, map, ℕ, suc, ◌≤◌, ◌<◌, eqb, pos, length, get_or}
+-- What is known of the points so far, seen from a plug, and boxes whose corners leave it as it is. Definitions only.
+use Rattle.std.specs.Prelude.{◌≡◌, List, [], ◌∷◌, ◌++◌, map, ℕ, ◌≤◌, pos, length, get_or, take}
 use Rattle.plane.specs.Points.{Point}
 use Rattle.plane.specs.Members.{All}
+use Rattle.plane.specs.Vectors.{from, Supported}
 use Rattle.rounds.specs.Boxes.{box, corner_of}
 use Rattle.rounds.specs.declared.Box.{Box}
 use Rattle.rounds.specs.declared.Corner.{Corner}
 use Rattle.rounds.specs.declared.Corner.TheVariants.{SouthWest, SouthEast, NorthEast, NorthWest}
-use Rattle.cones.specs.Wider.{numbered, is_around, cone_with}
+use Rattle.cones.specs.Cones.{corner_point, Named, ConeSays}
 use Rattle.cones.specs.declared.CornerKey.{CornerKey}
 use Rattle.cones.specs.declared.Cone.{Cone}
 use Rattle.cones.specs.declared.Cone.TheVariants.{Line}
+use Rattle.passes.specs.declared.Met.{Met}
+use Rattle.passes.specs.declared.Met.TheVariants.{Nowhere, At}
 use Rattle.passes.specs.declared.CornerSet.{CornerSet}
 use Rattle.passes.specs.declared.CornerSet.TheVariants.{One, Four}
+
+-- no point is the plug
+abbrev pub NoneAt : Point → List Point → Type 0
+NoneAt p qs = All (λ q. q ≡ p → ⊥) qs
+
+-- a corner that is the plug
+pub record IsPlug (bs : List Box) (p : Point) (v : CornerKey) : Type 0 where
+  pub named : Named bs v
+  pub is : corner_point v ≡ p
+
+-- a corner is the plug; or no point is, unless the plug is strictly inside their hull
+abbrev pub MetSays : List Box → List Point → Point → Met → Type 0
+MetSays bs qs p Nowhere = Supported (map (from 1 p) qs) → NoneAt p qs
+MetSays bs qs p (At v) = IsPlug bs p v
+
+-- what is known of the points qs and the plug p
+pub record Says (bs : List Box) (qs : List Point) (p : Point) (cone : Cone) (met : Met) : Type 0 where
+  pub of_cone : ConeSays bs qs p cone
+  pub of_met : MetSays bs qs p met
 
 -- the box at place k, from 0
 abbrev pub nth_box : List Box → ℕ → Box
@@ -26,26 +48,17 @@ names_in Four = SouthWest ∷ SouthEast ∷ NorthEast ∷ NorthWest ∷ []
 abbrev pub corners_in : CornerSet → Box → List Point
 corners_in set b = map (λ c. corner_of c b) (names_in set)
 
--- the same, as keys, of the box with a number
-abbrev pub keys_in : CornerSet → ℕ → Box → List CornerKey
-keys_in set n b = map (numbered n b) (names_in set)
+-- those of every box, box by box
+abbrev pub corners_by : CornerSet → List Box → List Point
+corners_by set [] = []
+corners_by set (b ∷ bs) = corners_in set b ++ corners_by set bs
 
--- a corner leaves the cone as it is, and is not the plug
-pub record Keeps (plug : ℕ) (cone : Cone) (v : CornerKey) : Type 0 where
-  pub same : cone_with plug cone v ≡ cone
-  pub apart : eqb v.key plug ≡ false
-
--- so do those corners of the box with a number; and the plug is not strictly inside, where no more boxes are looked at
-pub record KeepsBox (plug : ℕ) (cone : Cone) (set : CornerSet) (n : ℕ) (b : Box) : Type 0 where
-  pub onward : is_around cone ≡ false
-  pub corners : All (Keeps plug cone) (keys_in set n b)
-
--- so do the boxes from place k to place r
-pub record Passes (plug : ℕ) (cone : Cone) (set : CornerSet) (bs : List Box) (k r : ℕ) : Type 0 where
+-- from the first k boxes to the first r, what is known stays, behind whatever points
+pub record Passes (p : Point) (cone : Cone) (set : CornerSet) (bs : List Box) (k r : ℕ) : Type 0 where
   pub from : k ≤ r
   pub upto : r ≤ length bs
-  pub keeps : (i : ℕ) → k ≤ i → i < r → KeepsBox plug cone set (suc i) (nth_box bs i)
+  pub says : (all : List Box) (qs : List Point) (met : Met) → Says all (qs ++ corners_by set (take k bs)) p cone met → Says all (qs ++ corners_by set (take r bs)) p cone met
 
 -- the same where the cone is the line through a and whatever other
-pub record PassesLine (plug : ℕ) (a : CornerKey) (set : CornerSet) (bs : List Box) (k r : ℕ) : Type 0 where
-  pub passes : (b : CornerKey) → Passes plug (Line a b) set bs k r
+pub record PassesLine (p : Point) (a : CornerKey) (set : CornerSet) (bs : List Box) (k r : ℕ) : Type 0 where
+  pub passes : (b : CornerKey) → Passes p (Line a b) set bs k r

@@ -3,9 +3,9 @@
 #![tactic(auto)]
 
 ghost use Rattle.std.specs.Prelude.{◌/◌, ◌≤◌, length};
-ghost use Rattle.turns.specs.Keys.{Key};
+ghost use Rattle.turns.specs.Keys.{Key, point_of};
 ghost use Rattle.rounds.specs.Boxes.{BoxList, boxes_of};
-ghost use Rattle.cones.specs.Wider.{Keyed};
+ghost use Rattle.cones.specs.Cones.{Known};
 ghost use Rattle.passes.specs.Passes.{Passes, PassesLine};
 
 use cones::{Cone, CornerKey};
@@ -35,7 +35,7 @@ fn pass_corners(
     plug: u32,
 ) -> usize
     requires { BoxList boxes.now × (k ≤ length boxes.now / 4) × Key a.key × Key b.key × Key plug }
-    ensures { Passes plug (Cone.Wedge a b) (CornerSet.One corner)
+    ensures { Passes (point_of plug) (Cone.Wedge a b) (CornerSet.One corner)
         (boxes_of boxes.now) k result }
 {
     let count = boxes.len() / 4;
@@ -57,7 +57,7 @@ fn pass_corners(
 // corner furthest right of the one ray and that furthest left of the other tell.
 fn pass_boxes(boxes: &[i32], k: usize, a: CornerKey, b: CornerKey, plug: u32) -> usize
     requires { BoxList boxes.now × (k ≤ length boxes.now / 4) × Key a.key × Key b.key × Key plug }
-    ensures { Passes plug (Cone.Wedge a b) CornerSet.Four (boxes_of boxes.now) k result }
+    ensures { Passes (point_of plug) (Cone.Wedge a b) CornerSet.Four (boxes_of boxes.now) k result }
 {
     let count = boxes.len() / 4;
     let at_a = corners::rightmost_corner(plug, a.key);
@@ -81,7 +81,7 @@ fn pass_boxes(boxes: &[i32], k: usize, a: CornerKey, b: CornerKey, plug: u32) ->
 // four are looked at, none is passed.
 fn pass_line(boxes: &[i32], set: CornerSet, k: usize, a: CornerKey, plug: u32) -> usize
     requires { BoxList boxes.now × (k ≤ length boxes.now / 4) × Key a.key × Key plug }
-    ensures { PassesLine plug a set (boxes_of boxes.now) k result }
+    ensures { PassesLine (point_of plug) a set (boxes_of boxes.now) k result }
 {
     let CornerSet::One(corner) = set else {
         return k;
@@ -103,8 +103,8 @@ fn pass_line(boxes: &[i32], set: CornerSet, k: usize, a: CornerKey, plug: u32) -
 
 // A place from k on, such that those corners of the boxes up to there leave the cone as it is.
 pub fn pass_cone(boxes: &[i32], set: CornerSet, k: usize, cone: Cone, plug: u32) -> usize
-    requires { BoxList boxes.now × (k ≤ length boxes.now / 4) × Key plug × Keyed cone }
-    ensures { Passes plug cone set (boxes_of boxes.now) k result }
+    requires { BoxList boxes.now × (k ≤ length boxes.now / 4) × Key plug × Known (point_of plug) cone }
+    ensures { Passes (point_of plug) cone set (boxes_of boxes.now) k result }
 {
     if let Cone::Line(a, _) = cone {
         return pass_line(boxes, set, k, a, plug);

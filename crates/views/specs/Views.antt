@@ -10,10 +10,10 @@ use Rattle.rounds.specs.declared.Corner.TheVariants.{SouthWest}
 use Rattle.cones.specs.Cones.{corner_point, Named, ConeSays}
 use Rattle.cones.specs.declared.CornerKey.{CornerKey}
 use Rattle.cones.specs.declared.Cone.{Cone}
-use Rattle.passes.specs.Passes.{names_in, corners_in}
-use Rattle.passes.specs.declared.Met.{Met}
-use Rattle.passes.specs.declared.Met.TheVariants.{Nowhere, At}
-use Rattle.passes.specs.declared.CornerSet.{CornerSet}
+use Rattle.cone_passes.specs.Passes.{names_in, corners_in}
+use Rattle.cone_passes.specs.declared.Met.{Met}
+use Rattle.cone_passes.specs.declared.Met.TheVariants.{Nowhere, At}
+use Rattle.cone_passes.specs.declared.CornerSet.{CornerSet}
 use Rattle.views.specs.declared.View.{View}
 
 -- no point is the plug

@@ -6,12 +6,12 @@ ghost use Rattle.std.specs.Prelude.{◌≡◌, suc, ◌/◌, ◌<◌, length};
 ghost use Rattle.turns.specs.Keys.{Key};
 ghost use Rattle.rounds.specs.Boxes.{BoxList, boxes_of};
 ghost use Rattle.cones.specs.Wider.{numbered, Keyed};
-ghost use Rattle.passes.specs.Passes.{nth_box, names_in};
+ghost use Rattle.cone_passes.specs.Passes.{nth_box, names_in};
 ghost use Rattle.views.specs.Views.{nth_name};
 ghost use Rattle.views.specs.Looking.{met_with, looked_over, view_of};
 
 use cones::{Cone, CornerKey};
-use passes::{CornerSet, Met};
+use cone_passes::{CornerSet, Met};
 use rounds::Corner;
 
 // The points so far, as seen from the plug.
@@ -92,7 +92,7 @@ pub fn look_over(boxes: &[i32], set: CornerSet, plug: u32, start: View) -> View
     let each = corner_count(set);
     let mut cone = start.cone;
     let mut met = start.met;
-    let mut k = passes::pass_cone(boxes, set, 0, cone, plug);
+    let mut k = cone_passes::pass_cone(boxes, set, 0, cone, plug);
     let mut j: usize = 0;
     while k < count {
         let corner = nth_name(set, j);
@@ -105,7 +105,7 @@ pub fn look_over(boxes: &[i32], set: CornerSet, plug: u32, start: View) -> View
                 return View { cone, met };
             }
             j = 0;
-            k = passes::pass_cone(boxes, set, k + 1, cone, plug);
+            k = cone_passes::pass_cone(boxes, set, k + 1, cone, plug);
         }
     }
     View { cone, met }

@@ -17,7 +17,7 @@ use Rattle.passes.proofs.Passing.{corner_of_nth, four_inside, passes_none, passe
 use Rattle.passes.proofs.pass_boxes.Goals as goal
 
 pub loop-i-init : goal.loop-i-init
-loop-i-init c = passes_none _ _ _ _ c.args.k (omega (arith, c.requires.1, boxes_length c.args.boxes.now))
+loop-i-init c = passes_none _ _ _ c.args.k (omega (arith, c.requires.1, boxes_length c.args.boxes.now))
 
 pub corner_key-v-requires : goal.corner_key-v-requires
 corner_key-v-requires c = (c.requires.0, omega arith)
@@ -49,7 +49,7 @@ loop-i-preserved c =
     let bs = boxes_of c.args.boxes.now in
     let p = point_of c.args.plug in
     let n : i < length bs = omega (arith, boxes_length c.args.boxes.now) in
-    passes_inside c.args.plug Four bs _ _ _ i n (index_of_all _ c.requires.0.in_span i n)
+    passes_inside Four bs _ _ _ i n
     (four_inside p c.args.a c.args.b (nth_box bs i) (index_of_all _ c.requires.0.ordered i n) c.rightmost_corner-at_a.ensures c.rightmost_corner-at_b.ensures
     (subst (λ q. pos 0 <ℤ signed_area p (point_of c.args.a.key) q) (c.corner_key-v.ensures.is ∙ corner_of_nth c.rightmost_corner-at_a.result bs i n)
     (lt_z_true (sym c.turns_left.ensures ∙ c.if-not-turns_left.false)))

@@ -5,7 +5,6 @@ use native.Mathlib.Omega.{arith}
 use lib.ListN.{length}
 use Rattle.integers.proofs.Machine.{lt_z_true}
 use Rattle.plane.specs.Members.{none, ◌&◌}
-use Rattle.plane.proofs.Lists.{index_of_all}
 use Rattle.turns.specs.Keys.{point_of}
 use Rattle.rounds.specs.Boxes.{boxes_of}
 use Rattle.rounds.proofs.Rows.{boxes_length}
@@ -16,7 +15,7 @@ use borrow.Author.Rules.{rules}
 use Rattle.passes.proofs.pass_corners.Goals as goal
 
 pub loop-i-init : goal.loop-i-init
-loop-i-init c = passes_none _ _ _ _ c.args.k (omega (arith, c.requires.1, boxes_length c.args.boxes.now))
+loop-i-init c = passes_none _ _ _ c.args.k (omega (arith, c.requires.1, boxes_length c.args.boxes.now))
 
 pub corner_key-v-requires : goal.corner_key-v-requires
 corner_key-v-requires c = (c.requires.0, omega arith)
@@ -49,7 +48,7 @@ loop-i-preserved c =
     let B = point_of c.args.b.key in
     let p = point_of c.args.plug in
     let v = point_of c.corner_key-v.result in
-    passes_inside c.args.plug (One c.args.corner) bs _ _ _ i n (index_of_all _ c.requires.0.in_span i n)
+    passes_inside (One c.args.corner) bs _ _ _ i n
     (subst (InsideWedge p c.args.a c.args.b) e
     (back_pos p v A (lt_z_true (sym c.turns_right.ensures ∙ c.if-not-turns_right.false)), back_pos p B v (lt_z_true (sym c.turns_right-in-loop-i.ensures ∙ c.if-not-turns_right-2.false)))
     & none)

@@ -7,7 +7,6 @@ use lib.IntN.{pos}
 use lib.ListN.{length}
 use Rattle.integers.proofs.Tests.{lit, ok, eqz}
 use Rattle.plane.specs.Members.{none, ◌&◌}
-use Rattle.plane.proofs.Lists.{index_of_all}
 use Rattle.turns.specs.Keys.{point_of}
 use Rattle.turns.proofs.Order.{point_injective}
 use Rattle.rounds.specs.Boxes.{boxes_of}
@@ -23,18 +22,18 @@ abbrev corner : At-loop-i → Corner
 corner l = l.in-One.corner
 
 -- what is passed of that corner, of the set
-of-set : (l : At-loop-i) {r : ℕ} → PassesLine l.args.plug l.args.a (One (corner l)) (boxes_of l.args.boxes.now) l.args.k r
-    → PassesLine l.args.plug l.args.a l.args.set (boxes_of l.args.boxes.now) l.args.k r
+of-set : (l : At-loop-i) {r : ℕ} → PassesLine (point_of l.args.plug) l.args.a (One (corner l)) (boxes_of l.args.boxes.now) l.args.k r
+    → PassesLine (point_of l.args.plug) l.args.a l.args.set (boxes_of l.args.boxes.now) l.args.k r
 of-set l {r} o =
-    subst (λ set. PassesLine l.args.plug l.args.a set (boxes_of l.args.boxes.now) l.args.k r) (sym l.in-One.is) o
+    subst (λ set. PassesLine (point_of l.args.plug) l.args.a set (boxes_of l.args.boxes.now) l.args.k r) (sym l.in-One.is) o
 
 pub returns-in_default : goal.returns-in_default
 returns-in_default c =
-    record { passes = λ b. passes_none _ _ _ _ c.args.k (omega (arith, c.requires.1, boxes_length c.args.boxes.now)) }
+    record { passes = λ b. passes_none _ _ _ c.args.k (omega (arith, c.requires.1, boxes_length c.args.boxes.now)) }
 
 pub loop-i-init : goal.loop-i-init
 loop-i-init c =
-    record { passes = λ b. passes_none _ _ _ _ c.args.k (omega (arith, c.requires.1, boxes_length c.args.boxes.now)) }
+    record { passes = λ b. passes_none _ _ _ c.args.k (omega (arith, c.requires.1, boxes_length c.args.boxes.now)) }
 
 pub corner_key-v-requires : goal.corner_key-v-requires
 corner_key-v-requires c = (c.requires.0, omega arith)
@@ -62,7 +61,7 @@ loop-i-preserved c =
     let p = point_of c.args.plug in
     record {
       passes = λ b.
-          passes_line c.args.plug (One (corner c.before.before.before.before.before)) bs c.args.a b c.args.k i n (index_of_all _ c.requires.0.in_span i n)
+          passes_line (One (corner c.before.before.before.before.before)) bs c.args.a b c.args.k i n
           (subst (OnLineApart p c.args.a) (c.corner_key-v.ensures.is ∙ corner_of_nth (corner c.before.before.before.before.before) bs i n)
           (sym c.signed_area.ensures ∙ eqz {w = w64} (ok _ c.signed_area.type_inv) (lit (pos 0) tt) c.if-signed_area-ne0.false, λ e. c.if-v-plug.false (point_injective _ _ e))
           & none)

@@ -2,7 +2,7 @@
 use mathlib.Core.Path.{sym, ap}
 use mathlib.Core.Bool.{cond}
 use borrow.Author.Tests.{eq-eqb, ne_eqb}
-use Rattle.passes.specs.declared.Met.TheVariants.{At}
+use Rattle.cone_passes.specs.declared.Met.TheVariants.{At}
 use Rattle.views.proofs.meet.Goals as goal
 
 pub returns-then-v-plug : goal.returns-then-v-plug

@@ -7,7 +7,7 @@ use Rattle.turns.specs.Keys.{key_at}
 use Rattle.turns.proofs.Coordinates.{one_key}
 use Rattle.rounds.specs.Boxes.{boxes_of}
 use Rattle.rounds.proofs.Rows.{boxes_length}
-use Rattle.passes.proofs.Passing.{corner_of_nth}
+use Rattle.cone_passes.proofs.Passing.{corner_of_nth}
 use Rattle.views.proofs.nth_corner.Goals as goal
 
 pub returns : goal.returns
