@@ -1,4 +1,4 @@
-//! Links target/staticlib/libc_api.a, which `rt staticlib c_api` makes at the root of the repository.
+//! Links target/staticlib/libc_api.a, which tools/archive makes.
 
 use std::env;
 use std::path::Path;
@@ -9,7 +9,7 @@ fn main() {
     let archive = folder.join("libc_api.a");
     println!("cargo:rerun-if-changed={}", archive.display());
     if !archive.is_file() {
-        panic!("no {}: run `rt staticlib c_api` at the root of the repository first", archive.display());
+        panic!("no {}: run tools/archive first", archive.display());
     }
     println!("cargo:rustc-link-search=native={}", folder.display());
     println!("cargo:rustc-link-lib=static=c_api");

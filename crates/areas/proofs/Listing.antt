@@ -19,8 +19,8 @@ use Rattle.polygons.specs.declared.VertexCounts.{VertexCounts}
 use Rattle.polygons.specs.Written.{PolygonWritten, CornersWritten}
 use Rattle.areas.specs.declared.OuterReply.{OuterReply}
 use Rattle.areas.specs.declared.CornersReply.{CornersReply}
-use Rattle.areas.specs.Areas.{counts_of, OuterPromise, CornersPromise}
-use Rattle.areas.specs.Steps.{OuterListed, CornersListed}
+use Rattle.areas.specs.Areas.{counts_of, OuterAnswered, CornersAnswered}
+use Rattle.areas.specs.Steps.{OuterStands, CornersStand}
 use Rattle.rounds.specs.Replies.{reply_under, buffer_under, result}
 
 -- how many vertices the corner polygons have
@@ -30,7 +30,7 @@ sum c = c.southwest + c.southeast + c.northeast + c.northwest
 module _ (boxes d : List ℤ) where
   -- the outer polygon, and zeros behind it
   pub outer_zeroed : (xs ys : List ℤ) (count n : ℕ) → PolygonWritten (all_corners (boxes_of boxes)) 0 d count xs → n ≡ needed boxes → count * 2 ≤ n
-      → ys ≡ take (count * 2) xs ++ zeros (n - count * 2) ++ drop n xs → OuterListed boxes d count ys
+      → ys ≡ take (count * 2) xs ++ zeros (n - count * 2) ++ drop n xs → OuterStands boxes d count ys
   outer_zeroed xs ys count n w s l q =
       record {
         outer = w.vertices;
@@ -41,7 +41,7 @@ module _ (boxes d : List ℤ) where
 
   -- the corner polygons, and zeros behind them
   pub corners_zeroed : (xs ys : List ℤ) (c : VertexCounts) (n : ℕ) → CornersWritten (boxes_of boxes) d c xs → n ≡ needed boxes → sum c * 2 ≤ n
-      → ys ≡ take (sum c * 2) xs ++ zeros (n - sum c * 2) ++ drop n xs → CornersListed boxes d c ys
+      → ys ≡ take (sum c * 2) xs ++ zeros (n - sum c * 2) ++ drop n xs → CornersStand boxes d c ys
   corners_zeroed xs ys c n w s l q =
       record {
         sw = w.sw;
@@ -82,7 +82,7 @@ module _ (boxes before : List ℤ) where
     turned_back : {A : Type 0} → area_fault boxes (length before) ≡ Fault.none → A
     turned_back h = absurd (let z : ◌≡◌ {A = ℕ} 0 1 = cc in omega arith)
 
-    pub outer_refused : OuterPromise boxes before (OuterReply.Refused refusal) before
+    pub outer_refused : OuterAnswered boxes before (OuterReply.Refused refusal) before
     outer_refused =
         record {
           outer = [];
@@ -91,7 +91,7 @@ module _ (boxes before : List ℤ) where
           buffer = sym (ap (λ f. buffer_under f (listing (needed boxes) []) before) is);
         }
 
-    pub corners_refused : CornersPromise boxes before (CornersReply.Refused refusal) before
+    pub corners_refused : CornersAnswered boxes before (CornersReply.Refused refusal) before
     corners_refused =
         record {
           sw = [];
@@ -108,7 +108,7 @@ module _ (boxes before : List ℤ) where
 
   -- what no cause turns back
   module _ (after : List ℤ) (a : area_fault boxes (length before) ≡ Fault.none) where
-    pub outer_listed : (count : ℕ) → OuterListed boxes before count after → OuterPromise boxes before (OuterReply.Vertices count) after
+    pub outer_listed : (count : ℕ) → OuterStands boxes before count after → OuterAnswered boxes before (OuterReply.Vertices count) after
     outer_listed count l =
         record {
           outer = l.outer;
@@ -117,7 +117,7 @@ module _ (boxes before : List ℤ) where
           buffer = l.buffer ∙ sym (ap (λ f. buffer_under f (listing (needed boxes) l.outer) before) a);
         }
 
-    pub corners_listed : (counts : VertexCounts) → CornersListed boxes before counts after → CornersPromise boxes before (CornersReply.Vertices counts) after
+    pub corners_listed : (counts : VertexCounts) → CornersStand boxes before counts after → CornersAnswered boxes before (CornersReply.Vertices counts) after
     corners_listed counts l =
         record {
           sw = l.sw;

@@ -9,14 +9,14 @@ use Rattle.polygons.specs.declared.VertexCounts.{VertexCounts}
 use Rattle.areas.specs.Areas.{counts_of}
 
 -- the outer polygon is counted and stands in the buffer
-pub record OuterListed (boxes before : List ℤ) (count : ℕ) (after : List ℤ) : Type 0 where
+pub record OuterStands (boxes before : List ℤ) (count : ℕ) (after : List ℤ) : Type 0 where
   pub outer : List Point
   pub polygon : Polygon (all_corners (boxes_of boxes)) outer
   pub counted : count ≡ length outer
   pub buffer : after ≡ over_front (listing (needed boxes) outer) before
 
 -- the corner polygons are counted and stand in the buffer, one behind another
-pub record CornersListed (boxes before : List ℤ) (counts : VertexCounts) (after : List ℤ) : Type 0 where
+pub record CornersStand (boxes before : List ℤ) (counts : VertexCounts) (after : List ℤ) : Type 0 where
   pub sw : List Point
   pub se : List Point
   pub ne : List Point

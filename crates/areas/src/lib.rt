@@ -5,8 +5,8 @@
 ghost use Rattle.std.specs.Prelude.{◌≤◌, length};
 ghost use Rattle.rounds.specs.Boxes.{BoxList};
 ghost use Rattle.listings.specs.Listings.{needed};
-ghost use Rattle.areas.specs.Areas.{OuterPromise, CornersPromise};
-ghost use Rattle.areas.specs.Steps.{OuterListed, CornersListed};
+ghost use Rattle.areas.specs.Areas.{OuterPromise, CornersPromise, OuterAnswered, CornersAnswered};
+ghost use Rattle.areas.specs.Steps.{OuterStands, CornersStand};
 
 use polygons::VertexCounts;
 use rounds::{Checked, Refusal};
@@ -28,7 +28,7 @@ pub enum CornersReply {
 // Writes the outer polygon and the zeros after it.
 fn list_outer(boxes: &[i32], answer: &mut [i32]) -> usize
     requires { BoxList boxes.now × (needed boxes.now ≤ length answer.old) }
-    ensures { OuterListed boxes.now answer.old result answer.new }
+    ensures { OuterStands boxes.now answer.old result answer.new }
 {
     let count = polygons::write_outer(boxes, answer);
     let end = count * 2;
@@ -39,7 +39,7 @@ fn list_outer(boxes: &[i32], answer: &mut [i32]) -> usize
 // Writes the corner polygons and the zeros after them.
 fn list_corners(boxes: &[i32], answer: &mut [i32]) -> VertexCounts
     requires { BoxList boxes.now × (needed boxes.now ≤ length answer.old) }
-    ensures { CornersListed boxes.now answer.old result answer.new }
+    ensures { CornersStand boxes.now answer.old result answer.new }
 {
     let counts = polygons::write_corners(boxes, answer);
     let end = (counts.southwest + counts.southeast + counts.northeast + counts.northwest) * 2;
@@ -50,7 +50,8 @@ fn list_corners(boxes: &[i32], answer: &mut [i32]) -> VertexCounts
 // The outer polygon of the boxes, at the front of answer, with how many vertices it has; or a refusal, and answer is
 // as it was.
 pub fn outer_polygon(boxes: &[i32], answer: &mut [i32]) -> OuterReply
-    ensures { OuterPromise boxes.now answer.old result answer.new }
+    ensures promise { OuterPromise boxes.now answer.old result answer.new }
+    ensures answered { OuterAnswered boxes.now answer.old result answer.new }
 {
     let checked = checks::check_area(boxes, answer.len());
     if let Checked::Refused(refusal) = checked {
@@ -63,7 +64,8 @@ pub fn outer_polygon(boxes: &[i32], answer: &mut [i32]) -> OuterReply
 // The corner polygons SW, SE, NE, NW of the boxes, one behind another in answer, with how many vertices each has; or a
 // refusal, and answer is as it was.
 pub fn corner_polygons(boxes: &[i32], answer: &mut [i32]) -> CornersReply
-    ensures { CornersPromise boxes.now answer.old result answer.new }
+    ensures promise { CornersPromise boxes.now answer.old result answer.new }
+    ensures answered { CornersAnswered boxes.now answer.old result answer.new }
 {
     let checked = checks::check_area(boxes, answer.len());
     if let Checked::Refused(refusal) = checked {

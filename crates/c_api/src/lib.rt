@@ -5,7 +5,7 @@
 
 ghost use Rattle.std.specs.Prelude.{◌≡◌};
 ghost use Rattle.plane.specs.Points.{point};
-ghost use Rattle.areas.specs.Areas.{OuterPromise, CornersPromise};
+ghost use Rattle.areas.specs.Areas.{OuterPromise, CornersPromise, OuterAnswered, CornersAnswered};
 ghost use Rattle.verdicts.specs.Verdicts.{VerdictIs, word_reply, verdict_on};
 ghost use Rattle.verdicts.specs.Answers.{verdict_of, word_only};
 ghost use Rattle.records.specs.Records.{edges_of};
@@ -25,8 +25,10 @@ use rounds::Box;
 // The outer polygon of the boxes, at the front of answer.
 #[unsafe(no_mangle)]
 pub extern "C" fn feltloquat_outer_polygon(boxes: &[i32], answer: &mut [i32]) -> OuterAnswer
-    ensures { Answered outer_struct outer_meant (λ reply.
+    ensures promise { Answered outer_struct outer_meant (λ reply.
         OuterPromise boxes.now answer.old reply answer.new) result }
+    ensures answered { Answered outer_struct outer_meant (λ reply.
+        OuterAnswered boxes.now answer.old reply answer.new) result }
 {
     c_areas::outer_struct(areas::outer_polygon(boxes, answer))
 }
@@ -34,8 +36,10 @@ pub extern "C" fn feltloquat_outer_polygon(boxes: &[i32], answer: &mut [i32]) ->
 // The corner polygons SW, SE, NE, NW of the boxes, one behind another in answer.
 #[unsafe(no_mangle)]
 pub extern "C" fn feltloquat_corner_polygons(boxes: &[i32], answer: &mut [i32]) -> CornersAnswer
-    ensures { Answered corners_struct corners_meant (λ reply.
+    ensures promise { Answered corners_struct corners_meant (λ reply.
         CornersPromise boxes.now answer.old reply answer.new) result }
+    ensures answered { Answered corners_struct corners_meant (λ reply.
+        CornersAnswered boxes.now answer.old reply answer.new) result }
 {
     c_areas::corners_struct(areas::corner_polygons(boxes, answer))
 }

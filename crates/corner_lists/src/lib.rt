@@ -27,7 +27,7 @@ pub fn put_corner_keys(boxes: &[i32], corner: Corner, keys: &mut [u32])
 }
 
 // Writes the keys of one corner of every box to the front of keys, and those of another behind them.
-fn put_two_corners(boxes: &[i32], first: Corner, second: Corner, keys: &mut [u32])
+pub fn put_two_corners(boxes: &[i32], first: Corner, second: Corner, keys: &mut [u32])
     requires { BoxList boxes.now × (length boxes.now / 4 + length boxes.now / 4 ≤ length keys.old) }
     ensures { KeysOf
         (corners_of first (boxes_of boxes.now) ++ corners_of second (boxes_of boxes.now))

@@ -6,7 +6,7 @@ use Rattle.rounds.specs.Refusals.{Fault, area_fault, verdict_fault}
 use Rattle.rounds.specs.Replies.{result}
 use Rattle.rounds.specs.declared.Word.TheVariants.{Inside, Outside}
 use Rattle.verdicts.specs.Verdicts.{verdict_on}
-use Rattle.areas.specs.Areas.{OuterPromise, CornersPromise}
+use Rattle.areas.specs.Areas.{OuterAnswered, CornersAnswered}
 use Rattle.areas.specs.declared.OuterReply.{OuterReply}
 use Rattle.areas.specs.declared.CornersReply.{CornersReply}
 
@@ -27,6 +27,6 @@ pub record Follows (boxes : List ℤ) (plug : Point) (outer sw se ne nw : List P
 -- that is accepted follows them
 pub record Demand2 : Type 0 where
   pub follows : (boxes before after before' after' : List ℤ) (reply : OuterReply) (reply' : CornersReply)
-      (o : OuterPromise boxes before reply after) (c : CornersPromise boxes before' reply' after')
+      (o : OuterAnswered boxes before reply after) (c : CornersAnswered boxes before' reply' after')
       → area_fault boxes (length before) ≡ Fault.none → area_fault boxes (length before') ≡ Fault.none
       → (plug : Point) → verdict_fault boxes plug ≡ Fault.none → Follows boxes plug o.outer c.sw c.se c.ne c.nw

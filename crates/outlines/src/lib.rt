@@ -1,8 +1,9 @@
 // The outer polygon and the corner polygons of a box list, as the keys of their vertices, in lent scratch.
 #![tactic(auto)]
 
-ghost use Rattle.std.specs.Prelude.{◌≡◌, ◌+◌, ◌*◌, ◌/◌, ◌≤◌, ◌<◌, length};
+ghost use Rattle.std.specs.Prelude.{◌≡◌, ◌+◌, ◌*◌, ◌/◌, ◌≤◌, ◌<◌, length, min};
 ghost use Rattle.rounds.specs.Boxes.{boxes_of, corners_of, all_corners, BoxList};
+ghost use Rattle.corner_lists.specs.KeyLists.{KeysOf};
 ghost use Rattle.corner_lists.specs.ChainKeys.{PointEnds};
 ghost use Rattle.outlines.specs.Outlines.{ScratchFor, OuterRoom, PolygonKeys, PolygonBehind, TwoBehind};
 ghost use Rattle.outlines.specs.RoundPolygons.{RoundPolygons};
@@ -41,6 +42,37 @@ pub fn corner_outline(
     hulls::hull(&mut keys[..n], vertices, mirror)
 }
 
+// Writes the keys of all four corners of all boxes to the front of keys.
+fn put_all_corners(boxes: &[i32], keys: &mut [u32])
+    requires { BoxList boxes.now × (length boxes.now ≤ length keys.old) }
+    ensures { KeysOf (all_corners (boxes_of boxes.now)) keys.new }
+{
+    let half = boxes.len() / 4 + boxes.len() / 4;
+    corner_lists::put_two_corners(boxes, Corner::SouthWest, Corner::SouthEast, keys);
+    corner_lists::put_two_corners(
+        boxes,
+        Corner::NorthEast,
+        Corner::NorthWest,
+        &mut keys[half..],
+    );
+}
+
+// The outer polygon, from all corners: the first of vertices, as many as are returned. What the scratch holds is lost.
+pub fn outer_outline(
+    boxes: &[i32],
+    vertices: &mut [u32],
+    keys: &mut [u32],
+    mirror: &mut [u32],
+) -> usize
+    requires box_list { BoxList boxes.now × (length boxes.now ≤ length vertices.old) }
+    requires scratch_for { ScratchFor (length boxes.now) keys.old mirror.old }
+    ensures { PolygonKeys (all_corners (boxes_of boxes.now)) vertices.new result }
+{
+    let n = boxes.len();
+    put_all_corners(boxes, keys);
+    hulls::hull(&mut keys[..n], vertices, mirror)
+}
+
 // The outer polygon from the least key of all corners, first, to the greatest, last: the upper chain without its last
 // vertex, and then the lower one without its last, which is made, reflected, in keys.
 fn outer_chains(
@@ -68,8 +100,8 @@ fn outer_chains(
     ku - 1 + (kl - 1)
 }
 
-// The outer polygon: the first of vertices, as many as are returned. What the scratch holds is lost.
-pub fn outer_outline(
+// The outer polygon, by quarters: the first of vertices, as many as are returned. What the scratch holds is lost.
+pub fn quartered_outline(
     boxes: &[i32],
     vertices: &mut [u32],
     keys: &mut [u32],
@@ -139,6 +171,24 @@ fn append_two_outlines(
     }
 }
 
+// The outer polygon: by quarters, but for one box, whose corners have room where the quarters' keys may have none.
+fn first_outline(
+    boxes: &[i32],
+    vertices: &mut [u32],
+    keys: &mut [u32],
+    mirror: &mut [u32],
+) -> usize
+    requires box_list { BoxList boxes.now × (8 * (length boxes.now / 4) ≤ length vertices.old) }
+    requires scratch_for { ScratchFor
+        (min (length boxes.now) (length boxes.now / 4 + length boxes.now / 4 + 3)) keys.old mirror.old }
+    ensures { PolygonKeys (all_corners (boxes_of boxes.now)) vertices.new result }
+{
+    if boxes.len() <= 4 {
+        return outer_outline(boxes, vertices, keys, mirror);
+    }
+    quartered_outline(boxes, vertices, keys, mirror)
+}
+
 // The outer polygon and the corner polygons SW, SE, NE, NW, one behind another at the front of vertices, each in the
 // part that the earlier ones left free. What the scratch holds is lost.
 pub fn round_outlines(
@@ -148,10 +198,11 @@ pub fn round_outlines(
     mirror: &mut [u32],
 ) -> RoundCounts
     requires box_list { BoxList boxes.now × (8 * (length boxes.now / 4) ≤ length vertices.old) }
-    requires scratch_for { ScratchFor (length boxes.now / 4 + length boxes.now / 4 + 3) keys.old mirror.old }
+    requires scratch_for { ScratchFor
+        (min (length boxes.now) (length boxes.now / 4 + length boxes.now / 4 + 3)) keys.old mirror.old }
     ensures { RoundPolygons (boxes_of boxes.now) vertices.new result }
 {
-    let outer = outer_outline(boxes, vertices, keys, mirror);
+    let outer = first_outline(boxes, vertices, keys, mirror);
     let south = append_two_outlines(
         boxes,
         Corner::SouthWest,

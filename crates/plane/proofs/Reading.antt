@@ -105,7 +105,7 @@ behind_one {v = v} P a b ne q k = go (behind_vertex P a b ne q k)
   where
     go : (m : Point) × (m ∈ (v ∷ [])) × (along a b q ≤ℤ along a b m) → along a b q ≤ℤ along a b v
     go (m, here e, h) = subst (λ (r : Point). along a b q ≤ℤ along a b r) e h
-    go (m , there x5 , h) = elim x5 [ ]
+    go (m, there x5, h) = elim x5 [ ]
 
 one_vertex : {qs : List Point} {v : Point} → Polygon qs (v ∷ []) → All (λ q. q ≡ v) qs
 one_vertex {qs} {v} P = all_of qs (λ q k. point_ext (east q k) (north q k))
@@ -135,7 +135,7 @@ behind_two {v = v} {w = w} P a b ne l q k = go (behind_vertex P a b ne q k)
     go : (m : Point) × (m ∈ (v ∷ w ∷ [])) × (along a b q ≤ℤ along a b m) → along a b q ≤ℤ along a b w
     go (m, here e, h) = ≤_trans (subst (λ (r : Point). along a b q ≤ℤ along a b r) e h) l
     go (m, there (here e), h) = subst (λ (r : Point). along a b q ≤ℤ along a b r) e h
-    go (m , there (there x8) , h) = elim x8 [ ]
+    go (m, there (there x8), h) = elim x8 [ ]
 
 behind_swapped : {qs : List Point} {v w : Point} → Polygon qs (v ∷ w ∷ []) → (a b : ℤ) → ((a ≡ pos 0) × (b ≡ pos 0) → ⊥) → along a b w ≤ℤ along a b v → (q : Point) → q ∈ qs → along a b q ≤ℤ along a b v
 behind_swapped {v = v} {w = w} P a b ne l q k = go (behind_vertex P a b ne q k)
@@ -143,7 +143,7 @@ behind_swapped {v = v} {w = w} P a b ne l q k = go (behind_vertex P a b ne q k)
     go : (m : Point) × (m ∈ (v ∷ w ∷ [])) × (along a b q ≤ℤ along a b m) → along a b q ≤ℤ along a b v
     go (m, here e, h) = subst (λ (r : Point). along a b q ≤ℤ along a b r) e h
     go (m, there (here e), h) = ≤_trans (subst (λ (r : Point). along a b q ≤ℤ along a b r) e h) l
-    go (m , there (there x8) , h) = elim x8 [ ]
+    go (m, there (there x8), h) = elim x8 [ ]
 
 two_vertices : {qs : List Point} {v w : Point} → Polygon qs (v ∷ w ∷ []) → (v ≡ w → ⊥) → All (Between v w) qs
 two_vertices {qs} {v} {w} P ne = all_of qs (λ q k. record { in_line = ≤-antisym (right q k) (left q k); past_v = past q k; before_w = before q k })

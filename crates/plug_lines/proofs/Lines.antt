@@ -21,7 +21,7 @@ use Rattle.verdicts.specs.Verdicts.{word_reply}
 use Rattle.verdicts.specs.declared.WordReply.{WordReply}
 use Rattle.texts.specs.Decimals.{decimal}
 use Rattle.texts.specs.Text.{after_number, plug_reply, plug_line, plug_lines, Wrote}
-use Rattle.plug_lines.specs.Steps.{most_after_number, most_plug_line, most_plugs, LineRoom}
+use Rattle.plug_lines.specs.Steps.{most_after_number, most_plug_line, most_plugs, RoomBehind}
 use Rattle.plug_words.specs.Plugs.{WordBy}
 use Rattle.texts.proofs.Decimals.{few_digits}
 use Rattle.texts.proofs.Writing.{wrote_none, then_wrote, wrote_length}
@@ -65,7 +65,7 @@ pub record Sofar (vertices : List ℕ) (counts : RoundCounts) (before : ℕ) (pl
   pub rest : (bs : List Box) → All Ordered bs → RoundPolygons bs vertices counts
       → written ++ plug_lines (before + k + 1) bs (plugs_of (drop (k * 2) plugs)) ≡ plug_lines (before + 1) bs (plugs_of plugs)
 
-module _ (vertices : List ℕ) (counts : RoundCounts) (before : ℕ) (plugs : List ℤ) (entry : List ℕ) (room : LineRoom before plugs entry) where
+module _ (vertices : List ℕ) (counts : RoundCounts) (before : ℕ) (plugs : List ℤ) (entry : List ℕ) (room : RoomBehind before plugs entry) where
   pub sofar_none : Sofar vertices counts before plugs entry 0 0 entry
   sofar_none = record { within = omega arith; written = []; wrote = wrote_none entry; few = omega arith; rest = λ bs os f. ap (λ n. plug_lines (n + 1) bs (plugs_of plugs)) (add-zero before) }
 

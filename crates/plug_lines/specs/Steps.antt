@@ -25,8 +25,13 @@ most_plug_line = 15
 abbrev pub most_plugs : ℕ
 most_plugs = 9999
 
+-- room for so many bytes, and behind them for a line for each plug
+pub record LineRoom (bytes : ℕ) (plugs : List ℤ) (out : List ℕ) : Type 0 where
+  pub numbers : length plugs / 2 ≤ most_plugs
+  pub lines : bytes + most_plug_line * (length plugs / 2) ≤ length out
+
 -- behind so many plugs, these have numbers of up to four digits, and there is room for a line for each
-pub record LineRoom (before : ℕ) (plugs : List ℤ) (out : List ℕ) : Type 0 where
+pub record RoomBehind (before : ℕ) (plugs : List ℤ) (out : List ℕ) : Type 0 where
   pub numbers : before + length plugs / 2 ≤ most_plugs
   pub lines : most_plug_line * (length plugs / 2) ≤ length out
 
@@ -39,5 +44,9 @@ pub record LineBy (vertices : List ℕ) (counts : RoundCounts) (number : ℕ) (p
   pub wrote : Wrote (plug_line number (word_reply reply)) entry count exit
 
 -- the lines of a plug list, behind so many plugs, were written, for all ordered boxes whose polygons they are
-pub record LinesBy (vertices : List ℕ) (counts : RoundCounts) (before : ℕ) (plugs : List ℤ) (entry : List ℕ) (count : ℕ) (exit : List ℕ) : Type 0 where
+pub record LinesBehind (vertices : List ℕ) (counts : RoundCounts) (before : ℕ) (plugs : List ℤ) (entry : List ℕ) (count : ℕ) (exit : List ℕ) : Type 0 where
   pub says : (bs : List Box) → All Ordered bs → RoundPolygons bs vertices counts → Wrote (plug_lines (before + 1) bs (plugs_of plugs)) entry count exit
+
+-- the lines of a plug list were written, for all ordered boxes whose polygons they are
+pub record LinesBy (vertices : List ℕ) (counts : RoundCounts) (plugs : List ℤ) (entry : List ℕ) (count : ℕ) (exit : List ℕ) : Type 0 where
+  pub says : (bs : List Box) → All Ordered bs → RoundPolygons bs vertices counts → Wrote (plug_lines 1 bs (plugs_of plugs)) entry count exit

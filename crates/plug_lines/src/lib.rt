@@ -5,14 +5,14 @@
 
 ghost use Rattle.std.specs.Prelude.{◌+◌, ◌*◌, ◌/◌, ◌≤◌, length};
 ghost use Rattle.plane.specs.Points.{point};
-ghost use Rattle.rounds.specs.Boxes.{BoxList, boxes_of};
-ghost use Rattle.rounds.specs.Replies.{result};
+ghost use Rattle.rounds.specs.Boxes.{BoxList, boxes_of, plugs_of};
+ghost use Rattle.rounds.specs.Replies.{result as replied};
 ghost use Rattle.outlines.specs.RoundPolygons.{RoundPolygons};
 ghost use Rattle.plug_words.specs.Plugs.{Shaped, ShapesOf};
 ghost use Rattle.verdicts.specs.Verdicts.{word_reply};
 ghost use Rattle.texts.specs.Decimals.{decimal};
-ghost use Rattle.texts.specs.Text.{after_number, Wrote};
-ghost use Rattle.plug_lines.specs.Steps.{most_after_number, LineRoom, LineBy, LinesBy};
+ghost use Rattle.texts.specs.Text.{after_number, plug_lines, Wrote};
+ghost use Rattle.plug_lines.specs.Steps.{most_after_number, LineRoom, RoomBehind, LineBy, LinesBehind};
 
 use outlines::{MOST_KEYS, RoundCounts};
 use plug_words::RoundShapes;
@@ -25,7 +25,7 @@ pub const MOST_VERTICES: usize = 8192;
 // Writes a word after a plug's number.
 fn write_word(word: Word, out: &mut [u8]) -> usize
     requires { most_after_number ≤ length out.old }
-    ensures* { λ r. ⌜ Wrote (after_number (result word)) out.old r out.new ⌝ }
+    ensures { Wrote (after_number (replied word)) out.old result out.new }
 {
     match word {
         Word::Inside => texts::write_bytes(b" inside\n", out),
@@ -37,7 +37,7 @@ fn write_word(word: Word, out: &mut [u8]) -> usize
 // Writes what stands after a plug's number.
 fn write_reply(reply: WordReply, out: &mut [u8]) -> usize
     requires { most_after_number ≤ length out.old }
-    ensures* { λ r. ⌜ Wrote (after_number (word_reply reply)) out.old r out.new ⌝ }
+    ensures { Wrote (after_number (word_reply reply)) out.old result out.new }
 {
     match reply {
         WordReply::Given(word) => write_word(word, out),
@@ -55,8 +55,8 @@ fn write_plug_line(
     out: &mut [u8],
 ) -> usize
     requires { Shaped vertices.now polygons × (length (decimal number) + most_after_number ≤ length out.old) }
-    ensures* { λ r. ⌜ LineBy vertices.now polygons.counts number (point east north)
-        out.old r out.new ⌝ }
+    ensures { LineBy vertices.now polygons.counts number (point east north)
+        out.old result out.new }
 {
     let n = texts::write_decimal(number, out);
     let reply = plug_words::word_of(vertices, polygons, east, north);
@@ -71,9 +71,9 @@ pub fn write_lines(
     plugs: &[i32],
     out: &mut [u8],
 ) -> usize
-    requires { Shaped vertices.now polygons × LineRoom before plugs.now out.old }
-    ensures* { λ r. ⌜ LinesBy vertices.now polygons.counts before plugs.now
-        out.old r out.new ⌝ }
+    requires { Shaped vertices.now polygons × RoomBehind before plugs.now out.old }
+    ensures { LinesBehind vertices.now polygons.counts before plugs.now
+        out.old result out.new }
 {
     let count = plugs.len() / 2;
     let mut done: usize = 0;
@@ -96,7 +96,7 @@ pub fn write_lines(
 // The polygons of accepted boxes, made once for all plugs, at the front of vertices.
 fn make_polygons(boxes: &[i32], vertices: &mut [u32]) -> RoundCounts
     requires { BoxList boxes.now × (8 * (length boxes.now / 4) ≤ length vertices.old) }
-    ensures* { λ r. ⌜ RoundPolygons (boxes_of boxes.now) vertices.new r ⌝ }
+    ensures { RoundPolygons (boxes_of boxes.now) vertices.new result }
 {
     let mut keys = [0u32; MOST_KEYS];
     let mut mirror = [0u32; MOST_KEYS];
@@ -106,9 +106,21 @@ fn make_polygons(boxes: &[i32], vertices: &mut [u32]) -> RoundCounts
 // The polygons of accepted boxes, made once for so many plugs, with a box in which every plug is inside.
 pub fn make_shapes(boxes: &[i32], plugs: usize, vertices: &mut [u32]) -> RoundShapes
     requires { BoxList boxes.now × (8 * (length boxes.now / 4) ≤ length vertices.old) }
-    ensures* { λ r. ⌜ ShapesOf (boxes_of boxes.now) vertices.new r ⌝ }
+    ensures { ShapesOf (boxes_of boxes.now) vertices.new result }
 {
     let counts = make_polygons(boxes, vertices);
     let sure = sure_boxes::sure_box(vertices, counts, plugs);
     RoundShapes { counts, sure }
+}
+
+// Writes the line of each plug. The polygons of the boxes are made once.
+pub fn write_plug_lines(boxes: &[i32], plugs: &[i32], out: &mut [u8]) -> usize
+    requires { BoxList boxes.now × LineRoom 0 plugs.now out.old }
+    ensures { Wrote
+        (plug_lines 1 (boxes_of boxes.now) (plugs_of plugs.now))
+        out.old result out.new }
+{
+    let mut vertices = [0u32; MOST_VERTICES];
+    let polygons = make_shapes(boxes, plugs.len() / 2, &mut vertices);
+    write_lines(&vertices, polygons, 0, plugs, out)
 }

@@ -51,7 +51,7 @@ fn write_outer_in(
     ensures { PolygonWritten
         (all_corners (boxes_of boxes.now)) 0 answer.old result answer.new }
 {
-    let count = outlines::outer_outline(boxes, vertices, keys, list);
+    let count = outlines::quartered_outline(boxes, vertices, keys, list);
     listings::write_vertices(&vertices[..count], answer);
     count
 }

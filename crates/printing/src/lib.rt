@@ -12,7 +12,7 @@ use plug_lines::MOST_VERTICES;
 use plug_words::RoundShapes;
 
 // The length of the text's buffer, in which the text of every input has room.
-pub const TEXT_LENGTH: usize = 98304;
+pub const TEXT_LENGTH: usize = 131072;
 
 // Writes the lines of all plugs of a file, the first of which is read from `from` on.
 fn write_all_lines(

@@ -21,7 +21,7 @@ use Rattle.file_records.proofs.Over.{over_front_lem}
 use Rattle.file_passes.specs.Steps.{ahead, PlugRoom, PlugsRead}
 use Rattle.texts.specs.Text.{plug_reply, plug_line, plug_lines, Wrote}
 use Rattle.texts.proofs.Writing.{wrote_as}
-use Rattle.plug_lines.specs.Steps.{most_plug_line, LineRoom, LinesBy}
+use Rattle.plug_lines.specs.Steps.{most_plug_line, RoomBehind, LinesBehind}
 use Rattle.plug_lines.proofs.Lines.{few_lines}
 use Rattle.text_parts.specs.Steps.{most_piece, Waiting, NextLines}
 
@@ -63,7 +63,7 @@ module _ {file vertices : List ℕ} {polygons : RoundShapes} {plugs at done : �
         ∙ plugs_flat new
 
     -- their lines
-    pub piece_lines : {entry exit : List ℕ} {n : ℕ} → LinesBy vertices polygons.counts done (take (2 * count) numbers) entry n exit
+    pub piece_lines : {entry exit : List ℕ} {n : ℕ} → LinesBehind vertices polygons.counts done (take (2 * count) numbers) entry n exit
         → NextLines file vertices polygons plugs at done entry (record { bytes = n; done = done + count; at = next }) exit
     unfolding new
     piece_lines {entry} {exit} {n} l =
@@ -95,7 +95,7 @@ module _ {file vertices : List ℕ} {polygons : RoundShapes} {plugs at done : �
 
 -- what the lines ask for
 pub lines_room : {file vertices out : List ℕ} {polygons : RoundShapes} {plugs at done count : ℕ} {piece : List ℤ} → Waiting file vertices polygons plugs at done → count ≡ min (plugs - done) most_piece
-    → most_plug_line * min (plugs - done) most_piece ≤ length out → length piece ≡ 2 * count → Shaped vertices polygons × LineRoom done piece out
+    → most_plug_line * min (plugs - done) most_piece ≤ length out → length piece ≡ 2 * count → Shaped vertices polygons × RoomBehind done piece out
 lines_room w m r l = (
   shaped w.shapes,
   record { numbers = omega (arith, m, l, w.few, w.left); lines = omega (arith, m, l) },

@@ -10,21 +10,21 @@ use Rattle.polygons.proofs.Behind.{few, written}
 use Rattle.polygons.proofs.write_outer_in.Statement.{statement}
 use Rattle.polygons.proofs.write_outer_in.Tie as tie
 
-abbrev entry : tie.After-outer-outline → tie.Start
+abbrev entry : tie.After-quartered-outline → tie.Start
 entry c = c.before.before.before.before.before.before.before
 
 -- the vertices are no more than the points, and so have room among the keys
-few-vertices : (c : tie.After-outer-outline) → c.outer-outline.result ≤ length (entry c).args.boxes.now
-few-vertices c = let s = entry c in omega (arith, c.outer-outline.ensures.few, all_length s.args.boxes.now s.pre.0.0.whole)
+few-vertices : (c : tie.After-quartered-outline) → c.quartered-outline.result ≤ length (entry c).args.boxes.now
+few-vertices c = let s = entry c in omega (arith, c.quartered-outline.ensures.few, all_length s.args.boxes.now s.pre.0.0.whole)
 
-room : (c : tie.After-outer-outline) → c.outer-outline.result ≤ length c.outer-outline.new.1.0
-room c = omega (arith, few-vertices c, c.outer-outline.auto.1.0, (entry c).requires.1)
+room : (c : tie.After-quartered-outline) → c.quartered-outline.result ≤ length c.quartered-outline.new.1.0
+room c = omega (arith, few-vertices c, c.quartered-outline.auto.1.0, (entry c).requires.1)
 
-taken : (c : tie.After-outer-outline) → length (take c.outer-outline.result c.outer-outline.new.1.0) ≡ c.outer-outline.result
-taken c = length-take-le c.outer-outline.result c.outer-outline.new.1.0 (room c)
+taken : (c : tie.After-quartered-outline) → length (take c.quartered-outline.result c.quartered-outline.new.1.0) ≡ c.quartered-outline.result
+taken c = length-take-le c.quartered-outline.result c.quartered-outline.new.1.0 (room c)
 
-outer-outline-requires : tie.Need-outer-outline-requires
-outer-outline-requires c κs = search rules
+quartered-outline-requires : tie.Need-quartered-outline-requires
+quartered-outline-requires c κs = search rules
 
 slice-reshare-prefix-write-vertices : tie.Need-slice-reshare-prefix-write-vertices
 slice-reshare-prefix-write-vertices c = room c.before.before.before.before.before.before
@@ -35,7 +35,7 @@ slice-aggregate-write-vertices c = sym (taken c.before.before.before.before.befo
 write-vertices-requires : tie.Need-write-vertices-requires
 write-vertices-requires c κs =
     let f = c.before.before.before.before.before.before.before.before in
-    (f.outer-outline.ensures.keys, omega (arith, taken f, few-vertices f, (entry f).requires.0.1))
+    (f.quartered-outline.ensures.keys, omega (arith, taken f, few-vertices f, (entry f).requires.0.1))
 
 same_length : tie.Need-same-length
 same_length c = search rules
@@ -52,7 +52,7 @@ same-length-4 c = search rules
 returns : tie.Need-returns
 returns c =
     let f = c.before.before.before.before.before.before.before.before.before.before in
-    let p = f.outer-outline in
+    let p = f.quartered-outline in
     let w = c.before.write-vertices in
     written _ p.new.1.0 p.result (entry f).args.answer.now w.new.1.0 p.ensures (room f) w.ensures
 
@@ -60,7 +60,7 @@ pub write-outer-in-spec : {M : Type 1} → statement M
 write-outer-in-spec =
     tie.close
     (tie.spec
-    outer-outline-requires
+    quartered-outline-requires
     slice-reshare-prefix-write-vertices
     slice-aggregate-write-vertices
     write-vertices-requires
