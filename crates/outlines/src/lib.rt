@@ -172,12 +172,7 @@ fn append_two_outlines(
 }
 
 // The outer polygon: by quarters, but for one box, whose corners have room where the quarters' keys may have none.
-fn first_outline(
-    boxes: &[i32],
-    vertices: &mut [u32],
-    keys: &mut [u32],
-    mirror: &mut [u32],
-) -> usize
+fn first_outline(boxes: &[i32], vertices: &mut [u32], keys: &mut [u32], mirror: &mut [u32]) -> usize
     requires box_list { BoxList boxes.now × (8 * (length boxes.now / 4) ≤ length vertices.old) }
     requires scratch_for { ScratchFor
         (min (length boxes.now) (length boxes.now / 4 + length boxes.now / 4 + 3)) keys.old mirror.old }

@@ -69,9 +69,9 @@ upper_list-requires c =
     let mirror : List ℕ = take (both) (c.reflect_keys.new.keys ++ drop (both) (keys)) in
     let long : length mirror ≡ both = length-take-le (both) (c.reflect_keys.new.keys ++ drop (both) (keys)) (simp length-append (omega (arith, new-length))) in
     let same : (i : ℕ) → i < both → get mirror i ≡ reflected (get (take (both) (keys)) i) = λ i h.
-        get_or-take (both) (c.reflect_keys.new.keys ++ drop (both) (keys)) i 0 h
-        ∙ get_or-append c.reflect_keys.new.keys (drop (both) (keys)) 0 i (omega (arith, new-length))
-        ∙ c.reflect_keys.ensures.at i (omega (arith, length-take-le (both) (keys) (room))) in
+    get_or-take (both) (c.reflect_keys.new.keys ++ drop (both) (keys)) i 0 h
+    ∙ get_or-append c.reflect_keys.new.keys (drop (both) (keys)) 0 i (omega (arith, new-length))
+    ∙ c.reflect_keys.ensures.at i (omega (arith, length-take-le (both) (keys) (room))) in
     let left : HoldsKeys reflected c.args.boxes.now SouthEast (take (length c.args.boxes.now / 4) mirror) = left_held c.args.boxes.now SouthEast SouthWest (keys) (room) c.put_two_corners.ensures reflected mirror long same in
     let right : HoldsKeys reflected c.args.boxes.now SouthWest (drop (length c.args.boxes.now / 4) mirror) = right_held c.args.boxes.now SouthEast SouthWest (keys) (room) c.put_two_corners.ensures reflected mirror long same in
     let e = c.requires.box_list.1 in record {
@@ -90,9 +90,9 @@ returns c =
     let new-length : length c.reflect_keys.new.keys ≡ both = c.reflect_keys.auto.keys ∙ length-take-le (both) (keys) (room) in
     let long : length mirror ≡ both = length-take-le (both) (c.reflect_keys.new.keys ++ drop (both) (keys)) (simp length-append (omega (arith, new-length))) in
     let same : (i : ℕ) → i < both → get mirror i ≡ reflected (get (take (both) (keys)) i) = λ i h.
-        get_or-take (both) (c.reflect_keys.new.keys ++ drop (both) (keys)) i 0 h
-        ∙ get_or-append c.reflect_keys.new.keys (drop (both) (keys)) 0 i (omega (arith, new-length))
-        ∙ c.reflect_keys.ensures.at i (omega (arith, length-take-le (both) (keys) (room))) in
+    get_or-take (both) (c.reflect_keys.new.keys ++ drop (both) (keys)) i 0 h
+    ∙ get_or-append c.reflect_keys.new.keys (drop (both) (keys)) 0 i (omega (arith, new-length))
+    ∙ c.reflect_keys.ensures.at i (omega (arith, length-take-le (both) (keys) (room))) in
     let left : HoldsKeys reflected c.args.boxes.now SouthEast (take (length c.args.boxes.now / 4) mirror) = left_held c.args.boxes.now SouthEast SouthWest (keys) (room) c.put_two_corners.ensures reflected mirror long same in
     let right : HoldsKeys reflected c.args.boxes.now SouthWest (drop (length c.args.boxes.now / 4) mirror) = right_held c.args.boxes.now SouthEast SouthWest (keys) (room) c.put_two_corners.ensures reflected mirror long same in
     let l = c.reflected.ensures in

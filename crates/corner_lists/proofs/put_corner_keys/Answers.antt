@@ -1,6 +1,5 @@
 -- `corner_lists::put_corner_keys` meets its contract. The invariant: the first k keys are those of the corner of the first k boxes. Assumes nothing.
 use mathlib.Core.Path.{◌≡◌, refl, ◌∙◌, subst}
-use Prim.Native.Nat.{◌-◌}
 use native.Mathlib.Omega.{arith}
 use lib.ListN.{length, length-set}
 use Rattle.rounds.specs.Boxes.{boxes_of, corners_of}
