@@ -3,7 +3,6 @@ use mathlib.Core.Path.{◌≡◌, refl, sym, ◌∙◌, ap, subst}
 use borrow.Author.Tests.{ne_eqb}
 use Rattle.rounds.specs.Refusals.{number_of}
 use Rattle.rounds.specs.declared.Cause.{Cause}
-use Rattle.rounds.specs.declared.Cause.TheVariants as Cause
 use Rattle.rounds.specs.declared.Refusal.{Refusal}
 use Rattle.rounds.proofs.Numbers.{number_positive}
 use Rattle.c_answers.specs.Answers.{Answered, cause_meant, unless_refused}

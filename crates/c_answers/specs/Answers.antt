@@ -1,7 +1,6 @@
 -- What an exported call promises of the struct that it returns. Definitions only.
 use Rattle.std.specs.Prelude.{◌≡◌, cond, ℕ, eqb}
 use Rattle.rounds.specs.declared.Cause.{Cause}
-use Rattle.rounds.specs.declared.Cause.TheVariants as Cause
 use Rattle.rounds.specs.declared.Refusal.{Refusal}
 
 -- the answer that the struct means keeps the wrapped call's promise, and the struct is what that answer is given as, number by number

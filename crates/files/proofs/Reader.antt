@@ -6,7 +6,7 @@ use native.Mathlib.Omega.{arith}
 use lib.IntN.{ℤ}
 use lib.ListN.{length, take}
 use lib.Seq.{take_all}
-use Rattle.rounds.specs.Refusals.{Fault, none, fault, refusal_fault, ◌or_else◌, buffer_fault, read_fault}
+use Rattle.rounds.specs.Refusals.{Fault, none, refusal_fault, ◌or_else◌, buffer_fault, read_fault}
 use Rattle.rounds.specs.declared.Refusal.{Refusal}
 use Rattle.rounds.proofs.Accepted.{or_else_none}
 use Rattle.formats.specs.Content.{content_of}

@@ -3,12 +3,14 @@
 // fails is told on standard error; where a read fails nothing is printed, and where a write fails nothing more.
 #![tactic(auto)]
 
-ghost use Rattle.std.specs.Prelude.{◌≤◌, length};
+ghost use Rattle.std.specs.Prelude.{◌≤◌, ◌≡◌, true, take, length};
+ghost use Rattle.std.specs.Io.KnownBytes.{Appends};
+ghost use Rattle.texts.specs.Text.{text_of};
 ghost use Rattle.print_round.specs.Inputs.{Within, PrintingRoom};
 
 use plug_lines::MOST_VERTICES;
 use rounds::MOST_INPUT;
-use std::io::Read;
+use std::io::{Read, Write};
 use text_parts::PIECE_LENGTH;
 
 // One byte more than an input may have.
@@ -50,16 +52,18 @@ fn read_input(source: &mut impl Read, buffer: &mut [u8]) -> Input
 }
 
 // Prints the first so many bytes of a text, and says whether that went well.
-fn print_front(output: &impl Print, text: &[u8], bytes: usize) -> bool
+fn print_front<W: Write>(output: &mut W, text: &[u8], bytes: usize) -> bool
     requires { bytes ≤ length text.now }
+    ensures { result ≡ true → Appends (W.contents output.old) (W.contents output.new) (take bytes text.now) }
 {
     output.write_all(&text[..bytes]).is_ok()
 }
 
 // Prints the text of an input, its opening first and then the plugs' lines piece by piece, until a write fails, and
 // says whether all went well.
-fn print_text(output: &impl Print, input: &[u8], vertices: &mut [u32], text: &mut [u8]) -> bool
+fn print_text<W: Write>(output: &mut W, input: &[u8], vertices: &mut [u32], text: &mut [u8]) -> bool
     requires { PrintingRoom vertices.old text.old }
+    ensures { result ≡ true → Appends (W.contents output.old) (W.contents output.new) (text_of input.now) }
 {
     let opening = text_parts::open_text(input, vertices, text);
     let polygons = opening.polygons;
@@ -81,10 +85,10 @@ fn print_text(output: &impl Print, input: &[u8], vertices: &mut [u32], text: &mu
 }
 
 // Prints the text of an input, and tells a write that fails.
-fn print_input(rt: &(impl Print + Eprint), input: &[u8]) {
+fn print_input(rt: &HostRuntime, input: &[u8]) {
     let mut vertices = [0u32; MOST_VERTICES];
     let mut text = [0u8; PIECE_LENGTH];
-    if !print_text(rt, input, &mut vertices, &mut text) {
+    if !print_text(&mut rt.stdout(), input, &mut vertices, &mut text) {
         let _ = eprintln!(rt; "print_round: writing failed");
     }
 }

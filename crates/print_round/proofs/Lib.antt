@@ -1,0 +1,2 @@
+-- What was printed so far.
+pub mod Printed
