@@ -34,7 +34,7 @@ use Rattle.views.proofs.Viewing.{looks_over}
 use Rattle.cone_passes.specs.declared.Met.{Met}
 use Rattle.cone_passes.specs.declared.Met.TheVariants.{Nowhere, At}
 use Rattle.cone_passes.specs.declared.CornerSet.TheVariants.{Four}
-use Rattle.balances.specs.Balances.{BetweenCorners, InTriangle, BalanceAt, BalanceSays, BalanceAmong, BalanceByCone}
+use Rattle.balances.specs.Balances.{BetweenCorners, InTriangle, BalanceAt, BalanceSays, BalanceAmong, BalanceByCone, BalanceBy}
 use Rattle.balances.specs.Balancing.{between_two, among_three, balance_of_cone, balance_by_met, balance_of_view, ◌orBalance◌, balance_of}
 use Rattle.cones.specs.declared.CornerKey.{CornerKey}
 use Rattle.cones.specs.declared.Cone.{Cone}
@@ -292,3 +292,19 @@ module _ (k : ℕ) (hk : Key k) where
       let all = looked_over k Four 1 view bs in
       first_found bs sw (balance_of_view k view) (balance_of_view k all) (view_found bs sw view o)
       (balance_all bs sw p (balance_of_view k all) (view_found bs (sw ++ corners_by Four bs) all ((looks_over k bs h Four view).says sw o)))
+
+  -- so does what was found
+  pub two_says : (a b : CornerKey) → BetweenCorners p a b → {r : Balance} → r ≡ between_two k a b → BalanceAmong p (a ∷ b ∷ []) r
+  two_says a b h e = subst (BalanceAmong p (a ∷ b ∷ [])) (sym e) (two_found a b h)
+
+  pub three_says : (a b c : CornerKey) → InTriangle p a b c → {r : Balance} → r ≡ among_three k a b c → BalanceAmong p (a ∷ b ∷ c ∷ []) r
+  three_says a b c h e = subst (BalanceAmong p (a ∷ b ∷ c ∷ [])) (sym e) (three_found a b c h)
+
+  pub cone_says : (cone : Cone) → Known p cone → {r : Balance} → r ≡ balance_of_cone k cone → BalanceByCone p cone r
+  cone_says cone h e = subst (BalanceByCone p cone) (sym e) (cone_found cone h)
+
+  pub by_view : (view : View) {r : Balance} → r ≡ balance_of_view k view → BalanceBy p view r
+  by_view view e = record { says = λ bs qs o. subst (λ r. BalanceAt bs qs p r) (sym e) (view_found bs qs view o) }
+
+  pub by_all : (bs : List Box) → All BoxInSpan bs → (view : View) → CornerViewSays bs SouthWest p view → {r : Balance} → r ≡ balance_of k bs view → BalanceSays bs p r
+  by_all bs h view o e = subst (λ r. BalanceSays bs p r) (sym e) (balance_says bs h view o)

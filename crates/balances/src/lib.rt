@@ -2,16 +2,17 @@
 // the plug (crate views).
 #![tactic(auto)]
 
-ghost use Rattle.std.specs.Prelude.{◌≡◌};
+ghost use Rattle.std.specs.Prelude.{◌≡◌, [], ◌∷◌};
 ghost use Rattle.turns.specs.Keys.{Key, point_of};
 ghost use Rattle.rounds.specs.Boxes.{BoxList, boxes_of};
 ghost use Rattle.cones.specs.Cones.{entry_of, Known};
 ghost use Rattle.views.specs.Views.{CornerViewSays};
 ghost use Rattle.balances.specs.Balances.{BetweenCorners, InTriangle};
+ghost use Rattle.balances.specs.Balances.{BalanceSays, BalanceAmong, BalanceByCone, BalanceBy};
 ghost use Rattle.balances.specs.Balancing.{between_two, among_three, balance_of_cone, balance_of_view, balance_of};
 
-use cones::{Cone, CornerKey};
 use cone_passes::{CornerSet, Met};
+use cones::{Cone, CornerKey};
 use rounds::{Corner, Entry};
 use views::View;
 
@@ -37,7 +38,8 @@ fn entry_of(v: CornerKey, weight: u32) -> Entry
 // Two points on opposite sides of the plug, each with the plug's distance from the other for its weight.
 fn balance_between(a: CornerKey, b: CornerKey, plug: u32) -> Balance
     requires { Key plug × BetweenCorners (point_of plug) a b }
-    ensures { result ≡ between_two plug a b }
+    ensures exact { result ≡ between_two plug a b }
+    ensures balances { BalanceAmong (point_of plug) (a ∷ b ∷ []) result }
 {
     let at_a = turns::positive_dot_product(b.key, a.key, plug);
     let at_b = turns::positive_dot_product(a.key, b.key, plug);
@@ -47,7 +49,8 @@ fn balance_between(a: CornerKey, b: CornerKey, plug: u32) -> Balance
 // Three points with the plug in their triangle, each with the area of the other two and the plug for its weight.
 fn balance_in_triangle(a: CornerKey, b: CornerKey, c: CornerKey, plug: u32) -> Balance
     requires { Key plug × InTriangle (point_of plug) a b c }
-    ensures { result ≡ among_three plug a b c }
+    ensures exact { result ≡ among_three plug a b c }
+    ensures balances { BalanceAmong (point_of plug) (a ∷ b ∷ c ∷ []) result }
 {
     let at_a = turns::positive_area(plug, b.key, c.key);
     let at_b = turns::positive_area(plug, c.key, a.key);
@@ -58,7 +61,8 @@ fn balance_in_triangle(a: CornerKey, b: CornerKey, c: CornerKey, plug: u32) -> B
 // What the cone tells the second driver, if no point is the plug.
 fn balance_by_cone(cone: Cone, plug: u32) -> Balance
     requires { Key plug × Known (point_of plug) cone }
-    ensures { result ≡ balance_of_cone plug cone }
+    ensures exact { result ≡ balance_of_cone plug cone }
+    ensures balances { BalanceByCone (point_of plug) cone result }
 {
     match cone {
         Cone::Nothing => Balance::Separated,
@@ -73,7 +77,8 @@ fn balance_by_cone(cone: Cone, plug: u32) -> Balance
 // What the view tells the second driver.
 fn balance_by(view: View, plug: u32) -> Balance
     requires { Key plug × Known (point_of plug) view.cone }
-    ensures { result ≡ balance_of_view plug view }
+    ensures exact { result ≡ balance_of_view plug view }
+    ensures balances { BalanceBy (point_of plug) view result }
 {
     let cone = view.cone;
     let met = view.met;
@@ -87,7 +92,8 @@ fn balance_by(view: View, plug: u32) -> Balance
 pub fn balance_of(boxes: &[i32], plug: u32, view: View) -> Balance
     requires box_list { BoxList boxes.now × Key plug }
     requires corner_view_says { CornerViewSays (boxes_of boxes.now) Corner.SouthWest (point_of plug) view }
-    ensures { result ≡ balance_of plug (boxes_of boxes.now) view }
+    ensures exact { result ≡ balance_of plug (boxes_of boxes.now) view }
+    ensures balances { BalanceSays (boxes_of boxes.now) (point_of plug) result }
 {
     let sw = balance_by(view, plug);
     if let Balance::Reason(a, b, c) = sw {

@@ -1,15 +1,17 @@
 -- The cone of one more corner: what it says of the points, and that the corners that it holds have keys. Assumes nothing.
-use mathlib.Core.Path.{◌≡◌, refl, sym, ap}
+use mathlib.Core.Path.{◌≡◌, refl, sym, ◌∙◌, ap, subst}
 use mathlib.Core.Bool.{Bool, true, false, cond}
 use mathlib.Core.List.{List, ◌∷◌}
 use Prim.Native.Nat.{ℕ}
 use lib.Dec.{eqb}
+use lib.IntN.{pos}
 use borrow.Author.Tests.{eqb-true, eqb-false}
 use Rattle.integers.proofs.Machine.{lt_z_true, lt_z_false}
 use Rattle.integers.proofs.Order.{<→≤, ≡→≤}
-use Rattle.plane.specs.Points.{Point}
+use Rattle.plane.specs.Points.{Point, signed_area}
 use Rattle.plane.specs.Members.{All, none, ◌&◌}
 use Rattle.turns.specs.Keys.{Key, point_of}
+use Rattle.turns.specs.Turns.{turn_of}
 use Rattle.turns.specs.declared.Turn.{Turn}
 use Rattle.turns.specs.declared.Turn.TheVariants.{Right, Straight, Left}
 use Rattle.turns.proofs.Order.{point_injective}
@@ -127,3 +129,12 @@ module _ (plug : ℕ) (v : CornerKey) (hv : Key v.key) where
   with_says (Wedge a b) = wedge_says a b (turn_from plug a v) (turn_from plug v b) refl refl
   with_says (Half a b) = half_says a b (turn_from plug a v) refl
   with_says (Around a b c) = around_same p v hv a b c
+
+  -- so does the cone that was found
+  pub found_says : (cone : Cone) {wider : Cone} → wider ≡ cone_with plug cone v → Widened p cone v wider
+  found_says cone e = subst (Widened p cone v) (sym e) (with_says cone)
+
+  -- where a ray and the corner are in line
+  pub in_line_says : (a : CornerKey) {wider : Cone} → wider ≡ ray_by Straight (are_opposite plug a v) a v → signed_area p (point_of a.key) (point_of v.key) ≡ pos 0
+      → Widened p (Ray a) v wider
+  in_line_says a e s = found_says (Ray a) (e ∙ ap (λ t. ray_by t (are_opposite plug a v) a v) (sym (ap turn_of s)))

@@ -2,9 +2,11 @@
 // keys; those that a cone holds keep their box number and corner name.
 #![tactic(auto)]
 
-ghost use Rattle.std.specs.Prelude.{◌≡◌};
-ghost use Rattle.turns.specs.Keys.{Key};
+ghost use Rattle.std.specs.Prelude.{◌≡◌, pos};
+ghost use Rattle.plane.specs.Points.{signed_area};
+ghost use Rattle.turns.specs.Keys.{Key, point_of};
 ghost use Rattle.turns.specs.declared.Turn.TheVariants.{Straight};
+ghost use Rattle.cones.specs.Cones.{Widened};
 ghost use Rattle.cones.specs.Wider.{Keyed, are_opposite, ray_by, cone_with};
 
 use rounds::Corner;
@@ -34,7 +36,9 @@ pub enum Cone {
 
 // The cone where every point so far is the plug.
 fn widen_nothing(v: CornerKey, plug: u32) -> Cone
-    ensures { result ≡ cone_with plug Cone.Nothing v }
+    requires { Key v.key × Key plug }
+    ensures exact { result ≡ cone_with plug Cone.Nothing v }
+    ensures widened { Widened (point_of plug) Cone.Nothing v result }
 {
     if v.key == plug {
         return Cone::Nothing;
@@ -45,7 +49,9 @@ fn widen_nothing(v: CornerKey, plug: u32) -> Cone
 // The cone of a ray and of one more point in line with it.
 fn widen_in_line(a: CornerKey, v: CornerKey, plug: u32) -> Cone
     requires { Key a.key × Key v.key × Key plug }
-    ensures { result ≡ ray_by Straight (are_opposite plug a v) a v }
+    ensures exact { result ≡ ray_by Straight (are_opposite plug a v) a v }
+    ensures widened { signed_area (point_of plug) (point_of a.key) (point_of v.key) ≡ pos 0
+        → Widened (point_of plug) (Cone.Ray a) v result }
 {
     if turns::dot_product(plug, a.key, v.key) < 0 {
         return Cone::Line(a, v);
@@ -56,7 +62,8 @@ fn widen_in_line(a: CornerKey, v: CornerKey, plug: u32) -> Cone
 // The cone of a ray and of one more point.
 fn widen_ray(a: CornerKey, v: CornerKey, plug: u32) -> Cone
     requires { Key a.key × Key v.key × Key plug }
-    ensures { result ≡ cone_with plug (Cone.Ray a) v }
+    ensures exact { result ≡ cone_with plug (Cone.Ray a) v }
+    ensures widened { Widened (point_of plug) (Cone.Ray a) v result }
 {
     match turns::turn_of(plug, a.key, v.key) {
         Turn::Right => Cone::Wedge(v, a),
@@ -68,7 +75,8 @@ fn widen_ray(a: CornerKey, v: CornerKey, plug: u32) -> Cone
 // The cone of a line and of one more point.
 fn widen_line(a: CornerKey, b: CornerKey, v: CornerKey, plug: u32) -> Cone
     requires { Key a.key × Key v.key × Key plug }
-    ensures { result ≡ cone_with plug (Cone.Line a b) v }
+    ensures exact { result ≡ cone_with plug (Cone.Line a b) v }
+    ensures widened { Widened (point_of plug) (Cone.Line a b) v result }
 {
     match turns::turn_of(plug, a.key, v.key) {
         Turn::Right => Cone::Half(b, a),
@@ -80,7 +88,8 @@ fn widen_line(a: CornerKey, b: CornerKey, v: CornerKey, plug: u32) -> Cone
 // The cone of a wedge and of one more point: where it is right of the one ray or left of the other, it takes its place.
 fn widen_wedge(a: CornerKey, b: CornerKey, v: CornerKey, plug: u32) -> Cone
     requires { Key a.key × Key b.key × Key v.key × Key plug }
-    ensures { result ≡ cone_with plug (Cone.Wedge a b) v }
+    ensures exact { result ≡ cone_with plug (Cone.Wedge a b) v }
+    ensures widened { Widened (point_of plug) (Cone.Wedge a b) v result }
 {
     let from_a = turns::turn_of(plug, a.key, v.key);
     let to_b = turns::turn_of(plug, v.key, b.key);
@@ -106,7 +115,8 @@ fn widen_wedge(a: CornerKey, b: CornerKey, v: CornerKey, plug: u32) -> Cone
 // The cone of a half-plane and of one more point.
 fn widen_half(a: CornerKey, b: CornerKey, v: CornerKey, plug: u32) -> Cone
     requires { Key a.key × Key v.key × Key plug }
-    ensures { result ≡ cone_with plug (Cone.Half a b) v }
+    ensures exact { result ≡ cone_with plug (Cone.Half a b) v }
+    ensures widened { Widened (point_of plug) (Cone.Half a b) v result }
 {
     match turns::turn_of(plug, a.key, v.key) {
         Turn::Right => Cone::Around(a, b, v),
@@ -118,7 +128,8 @@ fn widen_half(a: CornerKey, b: CornerKey, v: CornerKey, plug: u32) -> Cone
 // The cone of the points so far and of one more.
 pub fn widen(cone: Cone, v: CornerKey, plug: u32) -> Cone
     requires { Key v.key × Key plug × Keyed cone }
-    ensures { result ≡ cone_with plug cone v }
+    ensures exact { result ≡ cone_with plug cone v }
+    ensures widened { Widened (point_of plug) cone v result }
 {
     match cone {
         Cone::Nothing => widen_nothing(v, plug),

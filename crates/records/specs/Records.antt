@@ -1,6 +1,7 @@
 -- Boxes as records, and the flat list of their edges. Definitions only.
 use Rattle.std.specs.Prelude.{◌≡◌, List, [], ◌∷◌, ℕ, ◌*◌, ◌≤◌, ◌<◌, ℤ, length, take}
 use Rattle.plane.specs.Points.{Point}
+use Rattle.verdicts.specs.Verdicts.{VerdictIs}
 use Rattle.verdicts.specs.Answers.{verdict_of}
 use Rattle.verdicts.specs.declared.Verdict.{Verdict}
 use Rattle.rounds.specs.declared.Box.{Box}
@@ -19,6 +20,7 @@ pub record CopyCount (count r : ℕ) : Type 0 where
 pub record Holds (edges array : List ℤ) : Type 0 where
   pub front : length edges ≤ 4096 → take (length edges) array ≡ edges
 
--- the verdict given on every list of so many boxes that the array holds
+-- the verdict on every list of so many boxes that the array holds, and the one that is given on it
 pub record JudgedOn (array : List ℤ) (count : ℕ) (plug : Point) (v : Verdict) : Type 0 where
-  pub on : (edges : List ℤ) → length edges ≡ count * 4 → Holds edges array → v ≡ verdict_of edges plug
+  pub on : (edges : List ℤ) → length edges ≡ count * 4 → Holds edges array → VerdictIs edges plug v
+  pub exact : (edges : List ℤ) → length edges ≡ count * 4 → Holds edges array → v ≡ verdict_of edges plug

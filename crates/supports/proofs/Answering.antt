@@ -1,6 +1,6 @@
 -- What a cone tells the first driver, and the four corners one after another. Assumes nothing.
 use Prim.Native.Nat.{ℕ}
-use mathlib.Core.Path.{◌≡◌, refl}
+use mathlib.Core.Path.{◌≡◌, refl, sym, subst}
 use mathlib.Core.List.{List, map}
 use lib.IntN.{pos}
 use Rattle.plane.specs.Points.{Point}
@@ -81,6 +81,13 @@ module _ (k : ℕ) (hk : Key k) (corner : Corner) where
   corner_supports : (bs : List Box) → All BoxInSpan bs → SupportAt bs p corner (support_of_corner k corner bs)
   corner_supports bs h = (cone_supports (view_of k corner bs).cone).says bs (view_says k bs h corner).of_cone
 
+  -- so does what was found
+  pub cone_found : (cone : Cone) {r : Support} → r ≡ support_of_cone k cone corner → SupportBy p cone corner r
+  cone_found cone e = subst (SupportBy p cone corner) (sym e) (cone_supports cone)
+
+  pub corner_found : (bs : List Box) → All BoxInSpan bs → {r : Support} → r ≡ support_of_corner k corner bs → SupportAt bs p corner r
+  corner_found bs h e = subst (λ r. SupportAt bs p corner r) (sym e) (corner_supports bs h)
+
 -- where that one corner of every box has the plug strictly inside, the cone says so
 module _ (k : ℕ) (corner : Corner) (bs : List Box) (h : Supported (map (from 1 (point_of k)) (corners_of corner bs)) → ⊥) where
   cone_surrounds : (cone : Cone) → ConeSays bs (corners_of corner bs) (point_of k) cone → Support'.Surrounded ≡ support_of_cone k cone corner
@@ -116,3 +123,7 @@ support_says k hk bs h view o =
     support_first bs (point_of k) (support_of_cone k view.cone SouthWest) (support_of_corner k SouthEast bs) (support_of_corner k NorthEast bs) (support_of_corner k NorthWest bs)
     ((cone_supports k hk SouthWest view.cone).says bs o.of_cone)
     (corner_supports k hk SouthEast bs h) (corner_supports k hk NorthEast bs h) (corner_supports k hk NorthWest bs h)
+
+pub support_found : (k : ℕ) → Key k → (bs : List Box) → All BoxInSpan bs → (view : View) → CornerViewSays bs SouthWest (point_of k) view → {r : Support} → r ≡ support_of k bs view
+    → SupportSays bs (point_of k) r
+support_found k hk bs h view o e = subst (λ r. SupportSays bs (point_of k) r) (sym e) (support_says k hk bs h view o)

@@ -8,7 +8,7 @@ ghost use Rattle.rounds.specs.Boxes.{BoxList, boxes_of, corners_of};
 ghost use Rattle.cones.specs.Cones.{Named, ConeSays};
 ghost use Rattle.cones.specs.Wider.{Keyed};
 ghost use Rattle.views.specs.Views.{CornerViewSays};
-ghost use Rattle.supports.specs.Supports.{square_to, TriangleSays};
+ghost use Rattle.supports.specs.Supports.{square_to, SupportAt, TriangleSays, SupportSays, SupportBy};
 ghost use Rattle.supports.specs.Supporting.{support_of_cone, support_of_corner, support_of};
 
 use cones::{Cone, CornerKey};
@@ -40,7 +40,8 @@ fn square_to(a: CornerKey, corner: Corner, plug: u32) -> Direction
 // its first ray.
 fn support_by(cone: Cone, corner: Corner, plug: u32) -> Support
     requires { Key plug × Keyed cone }
-    ensures { result ≡ support_of_cone plug cone corner }
+    ensures exact { result ≡ support_of_cone plug cone corner }
+    ensures supports { SupportBy (point_of plug) cone corner result }
 {
     match cone {
         Cone::Nothing => Support::Reason(Direction {
@@ -81,7 +82,8 @@ fn support_at(boxes: &[i32], corner: Corner, plug: u32, southwest: Cone) -> Supp
     requires box_list { BoxList boxes.now × Key plug }
     requires cone_says { ConeSays (boxes_of boxes.now) (corners_of Corner.SouthWest (boxes_of boxes.now)) (point_of plug)
         southwest }
-    ensures { result ≡ support_of_corner plug corner (boxes_of boxes.now) }
+    ensures exact { result ≡ support_of_corner plug corner (boxes_of boxes.now) }
+    ensures supports { SupportAt (boxes_of boxes.now) (point_of plug) corner result }
 {
     if let Cone::Around(a, b, c) = southwest {
         if is_in_triangle(boxes, corner, a, b, c, plug) {
@@ -97,7 +99,8 @@ fn support_at(boxes: &[i32], corner: Corner, plug: u32, southwest: Cone) -> Supp
 pub fn support_of(boxes: &[i32], plug: u32, view: View) -> Support
     requires box_list { BoxList boxes.now × Key plug }
     requires corner_view_says { CornerViewSays (boxes_of boxes.now) Corner.SouthWest (point_of plug) view }
-    ensures { result ≡ support_of plug (boxes_of boxes.now) view }
+    ensures exact { result ≡ support_of plug (boxes_of boxes.now) view }
+    ensures supports { SupportSays (boxes_of boxes.now) (point_of plug) result }
 {
     let cone = view.cone;
     let sw = support_by(cone, Corner::SouthWest, plug);

@@ -3,10 +3,10 @@
 
 ghost use Rattle.std.specs.Prelude.{◌≡◌};
 ghost use Rattle.plane.specs.Points.{point};
-ghost use Rattle.turns.specs.Keys.{Key};
+ghost use Rattle.turns.specs.Keys.{Key, point_of};
 ghost use Rattle.rounds.specs.Boxes.{BoxList, boxes_of};
 ghost use Rattle.views.specs.Looking.{view_of};
-ghost use Rattle.verdicts.specs.Verdicts.{VerdictIs, word_reply, verdict_on};
+ghost use Rattle.verdicts.specs.Verdicts.{Judged, VerdictIs, word_reply, verdict_on};
 ghost use Rattle.verdicts.specs.Answers.{verdict_from, verdict_of, word_only};
 
 use balances::Balance;
@@ -33,8 +33,9 @@ pub enum WordReply {
 // Most plugs outside are so by one line, which is tried first.
 fn judge(boxes: &[i32], plug: u32) -> Verdict
     requires { BoxList boxes.now × Key plug }
-    ensures { result ≡ verdict_from plug (boxes_of boxes.now)
+    ensures exact { result ≡ verdict_from plug (boxes_of boxes.now)
         (view_of plug Corner.SouthWest (boxes_of boxes.now)) }
+    ensures judged { Judged (boxes_of boxes.now) (point_of plug) result }
 {
     let view = views::view_of(boxes, Corner::SouthWest, plug);
     let cone = view.cone;

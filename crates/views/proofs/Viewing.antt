@@ -52,7 +52,7 @@ met_same : {p : Point} (met : Met) (v : CornerKey) → (corner_point v ≡ p →
 met_same {p} met v ne = record { says = λ bs qs n m. met_more bs qs p (corner_point v) met ne m }
 
 -- by the test
-met_says : (plug : ℕ) (met : Met) (v : CornerKey) → MetOn (point_of plug) met v (met_with plug met v)
+pub met_says : (plug : ℕ) (met : Met) (v : CornerKey) → MetOn (point_of plug) met v (met_with plug met v)
 met_says plug met v = go (eqb v.key plug) refl
   where
     go : (t : Bool) → eqb v.key plug ≡ t → MetOn (point_of plug) met v (cond t (At v) met)
@@ -137,7 +137,7 @@ module _ (plug : ℕ) (bs : List Box) (spans : All BoxInSpan bs) where
   p = point_of plug
 
   -- a corner of the box at k, as a key
-  numbered_corner : (k : ℕ) → k < length bs → (c : Corner) → CornerOf bs c k (numbered (suc k) (nth_box bs k) c)
+  pub numbered_corner : (k : ℕ) → k < length bs → (c : Corner) → CornerOf bs c k (numbered (suc k) (nth_box bs k) c)
   numbered_corner k h c =
       corner_of_lem bs c k _ (suc k) h (omega arith)
       (subst (λ q. KeyOf q (numbered (suc k) (nth_box bs k) c).key) (sym (corner_of_nth c bs k h)) (key_at_lem _ (corner_in_span c (nth_box bs k) (index_of_all _ spans k h))))

@@ -3,15 +3,16 @@
 #![tactic(auto)]
 
 ghost use Rattle.std.specs.Prelude.{◌≡◌, suc, ◌/◌, ◌<◌, length};
-ghost use Rattle.turns.specs.Keys.{Key};
+ghost use Rattle.turns.specs.Keys.{Key, point_of};
 ghost use Rattle.rounds.specs.Boxes.{BoxList, boxes_of};
+ghost use Rattle.cones.specs.Cones.{CornerOf};
 ghost use Rattle.cones.specs.Wider.{numbered, Keyed};
 ghost use Rattle.cone_passes.specs.Passes.{nth_box, names_in};
-ghost use Rattle.views.specs.Views.{nth_name};
+ghost use Rattle.views.specs.Views.{MetOn, CornerViewSays, nth_name, LooksOver};
 ghost use Rattle.views.specs.Looking.{met_with, looked_over, view_of};
 
-use cones::{Cone, CornerKey};
 use cone_passes::{CornerSet, Met};
+use cones::{Cone, CornerKey};
 use rounds::Corner;
 
 // The points so far, as seen from the plug.
@@ -24,7 +25,8 @@ pub struct View {
 // That one corner of the box at place k, from 0.
 fn nth_corner(boxes: &[i32], k: usize, corner: Corner) -> CornerKey
     requires { BoxList boxes.now × (k < length boxes.now / 4) }
-    ensures { result ≡ numbered (suc k) (nth_box (boxes_of boxes.now) k) corner }
+    ensures exact { result ≡ numbered (suc k) (nth_box (boxes_of boxes.now) k) corner }
+    ensures is_corner { CornerOf (boxes_of boxes.now) corner k result }
 {
     let key = corners::corner_key(boxes, k, corner);
     let number = (k + 1) as u32;
@@ -37,7 +39,8 @@ fn nth_corner(boxes: &[i32], k: usize, corner: Corner) -> CornerKey
 
 // Where the plug is met among the points so far and one more.
 fn meet(met: Met, v: CornerKey, plug: u32) -> Met
-    ensures { result ≡ met_with plug met v }
+    ensures exact { result ≡ met_with plug met v }
+    ensures met_on { MetOn (point_of plug) met v result }
 {
     if v.key == plug {
         return Met::At(v);
@@ -86,7 +89,8 @@ fn nth_name(set: CornerSet, j: usize) -> Corner
 // The start's points and those corners of every box, as seen from the plug; no further than it is strictly inside.
 pub fn look_over(boxes: &[i32], set: CornerSet, plug: u32, start: View) -> View
     requires { BoxList boxes.now × Key plug × Keyed start.cone }
-    ensures { result ≡ looked_over plug set 1 start (boxes_of boxes.now) }
+    ensures exact { result ≡ looked_over plug set 1 start (boxes_of boxes.now) }
+    ensures looks_over { LooksOver (boxes_of boxes.now) (point_of plug) start set result }
 {
     let count = boxes.len() / 4;
     let each = corner_count(set);
@@ -114,7 +118,8 @@ pub fn look_over(boxes: &[i32], set: CornerSet, plug: u32, start: View) -> View
 // That one corner of every box, as seen from the plug.
 pub fn view_of(boxes: &[i32], corner: Corner, plug: u32) -> View
     requires { BoxList boxes.now × Key plug }
-    ensures { result ≡ view_of plug corner (boxes_of boxes.now) }
+    ensures exact { result ≡ view_of plug corner (boxes_of boxes.now) }
+    ensures says { CornerViewSays (boxes_of boxes.now) corner (point_of plug) result }
 {
     let nothing = View {
         cone: Cone::Nothing,

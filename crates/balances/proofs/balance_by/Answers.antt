@@ -1,13 +1,17 @@
 -- `balances::balance_by` meets its contract: a corner that is the plug balances alone, and else the cone answers. Assumes nothing.
-use mathlib.Core.Path.{sym, ◌∙◌, ap}
-use Rattle.balances.specs.Balancing.{balance_by_met}
+use mathlib.Core.Path.{◌≡◌, sym, ◌∙◌, ap}
+use Rattle.balances.specs.Balancing.{balance_by_met, balance_of_view}
+use Rattle.balances.specs.declared.Balance.TheVariants.{Reason}
+use Rattle.balances.proofs.Answering.{by_view}
 use Rattle.balances.proofs.balance_by.Goals as goal
 
 pub returns-in-At : goal.returns-in-At
 returns-in-At c =
-    rw (c.entry_of.ensures, c.entry_of-in-At.ensures, c.entry_of-in-At-2.ensures)
-    (ap (λ m. balance_by_met c.args.plug m c.args.view.cone) (sym c.in-At.is))
+    let e : Reason c.entry_of.result c.entry_of-in-At.result c.entry_of-in-At-2.result ≡ balance_of_view c.args.plug c.args.view =
+    rw (c.entry_of.ensures, c.entry_of-in-At.ensures, c.entry_of-in-At-2.ensures) (ap (λ m. balance_by_met c.args.plug m c.args.view.cone) (sym c.in-At.is)) in
+    record { exact = e; balances = by_view c.args.plug c.requires.0 c.args.view e }
 
 pub returns : goal.returns
 returns c =
-    c.balance_by_cone.ensures ∙ ap (λ m. balance_by_met c.args.plug m c.args.view.cone) (sym c.in_default.is)
+    let e = c.balance_by_cone.ensures.exact ∙ ap (λ m. balance_by_met c.args.plug m c.args.view.cone) (sym c.in_default.is) in
+    record { exact = e; balances = by_view c.args.plug c.requires.0 c.args.view e }

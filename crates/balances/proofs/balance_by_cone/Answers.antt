@@ -6,7 +6,7 @@ use Rattle.cones.specs.Cones.{Known}
 use Rattle.cones.specs.declared.Cone.{Cone}
 use Rattle.balances.specs.Balancing.{balance_of_cone}
 use Rattle.balances.specs.declared.Balance.{Balance}
-use Rattle.balances.proofs.Answering.{line_between, half_between, around_triangle}
+use Rattle.balances.proofs.Answering.{line_between, half_between, around_triangle, cone_says}
 use Rattle.balances.proofs.balance_by_cone.Goals as goal
 
 -- what is found of the case is found of the cone
@@ -29,19 +29,31 @@ balance_in_triangle-requires c =
     (c.requires.0, around_triangle _ _ _ _ k.says)
 
 pub returns-in-Nothing : goal.returns-in-Nothing
-returns-in-Nothing c = same c.args.plug c.in-Nothing.is refl
+returns-in-Nothing c =
+    let e = same c.args.plug c.in-Nothing.is refl in
+    record { exact = e; balances = cone_says c.args.plug c.requires.0 c.args.cone c.requires.1 e }
 
 pub returns-in-Ray : goal.returns-in-Ray
-returns-in-Ray c = same c.args.plug c.in-Ray.is refl
+returns-in-Ray c =
+    let e = same c.args.plug c.in-Ray.is refl in
+    record { exact = e; balances = cone_says c.args.plug c.requires.0 c.args.cone c.requires.1 e }
 
 pub returns-in-Line : goal.returns-in-Line
-returns-in-Line c = same c.args.plug c.in-Line.is c.balance_between.ensures
+returns-in-Line c =
+    let e = same c.args.plug c.in-Line.is c.balance_between.ensures.exact in
+    record { exact = e; balances = cone_says c.args.plug c.requires.0 c.args.cone c.requires.1 e }
 
 pub returns-in-Wedge : goal.returns-in-Wedge
-returns-in-Wedge c = same c.args.plug c.in-Wedge.is refl
+returns-in-Wedge c =
+    let e = same c.args.plug c.in-Wedge.is refl in
+    record { exact = e; balances = cone_says c.args.plug c.requires.0 c.args.cone c.requires.1 e }
 
 pub returns-in-Half : goal.returns-in-Half
-returns-in-Half c = same c.args.plug c.in-Half.is c.balance_between-in-Half.ensures
+returns-in-Half c =
+    let e = same c.args.plug c.in-Half.is c.balance_between-in-Half.ensures.exact in
+    record { exact = e; balances = cone_says c.args.plug c.requires.0 c.args.cone c.requires.1 e }
 
 pub returns-in-Around : goal.returns-in-Around
-returns-in-Around c = same c.args.plug c.in-Around.is c.balance_in_triangle.ensures
+returns-in-Around c =
+    let e = same c.args.plug c.in-Around.is c.balance_in_triangle.ensures.exact in
+    record { exact = e; balances = cone_says c.args.plug c.requires.0 c.args.cone c.requires.1 e }

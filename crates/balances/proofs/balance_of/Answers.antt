@@ -14,6 +14,7 @@ use Rattle.views.specs.declared.View.{View}
 use Rattle.views.proofs.Viewing.{looks_over}
 use Rattle.balances.specs.Balancing.{balance_of_view, ◌orBalance◌, balance_of}
 use Rattle.balances.specs.declared.Balance.{Balance}
+use Rattle.balances.proofs.Answering.{by_all}
 use Rattle.balances.proofs.balance_of.Goals as goal
 
 -- what the south-west corners give decides
@@ -22,7 +23,9 @@ by-sw : (plug : ℕ) (bs : List Box) (view : View) {r : Balance} → balance_of_
 by-sw plug bs view e = ap (λ x. x orBalance balance_of_view plug (looked_over plug Four 1 view bs)) (sym e)
 
 pub returns-in-Reason : goal.returns-in-Reason
-returns-in-Reason c = by-sw c.args.plug (boxes_of c.args.boxes.now) c.args.view (sym c.balance_by-sw.ensures ∙ c.in-Reason.is)
+returns-in-Reason c =
+    let e = by-sw c.args.plug (boxes_of c.args.boxes.now) c.args.view (sym c.balance_by-sw.ensures.exact ∙ c.in-Reason.is) in
+    record { exact = e; balances = by_all c.args.plug c.requires.box_list.1 (boxes_of c.args.boxes.now) c.requires.box_list.0.in_span c.args.view c.requires.corner_view_says e }
 
 pub look_over-all-requires : goal.look_over-all-requires
 look_over-all-requires c =
@@ -33,11 +36,11 @@ pub balance_by-requires : goal.balance_by-requires
 balance_by-requires c =
     let bs = boxes_of c.args.boxes.now in (
       c.requires.box_list.1,
-      subst (λ (v : View). Known (point_of c.args.plug) v.cone) (sym c.look_over-all.ensures)
+      subst (λ (v : View). Known (point_of c.args.plug) v.cone) (sym c.look_over-all.ensures.exact)
           (record { boxes = _; points = _; says = ((looks_over c.args.plug bs c.requires.box_list.0.in_span Four c.args.view).says (corners_of SouthWest bs) c.requires.corner_view_says).of_cone }),
     )
 
 pub returns : goal.returns
 returns c =
-    c.balance_by.ensures ∙ ap (balance_of_view c.args.plug) c.look_over-all.ensures
-    ∙ by-sw c.args.plug (boxes_of c.args.boxes.now) c.args.view (sym c.balance_by-sw.ensures ∙ c.in_default.is)
+    let e = c.balance_by.ensures.exact ∙ ap (balance_of_view c.args.plug) c.look_over-all.ensures.exact ∙ by-sw c.args.plug (boxes_of c.args.boxes.now) c.args.view (sym c.balance_by-sw.ensures.exact ∙ c.in_default.is) in
+    record { exact = e; balances = by_all c.args.plug c.requires.box_list.1 (boxes_of c.args.boxes.now) c.requires.box_list.0.in_span c.args.view c.requires.corner_view_says e }

@@ -4,7 +4,7 @@ use mathlib.Core.Path.{◌≡◌, refl, sym, ◌∙◌, ap, subst}
 use Rattle.cones.specs.Wider.{Keyed, cone_with}
 use Rattle.cones.specs.declared.Cone.{Cone}
 use Rattle.cones.specs.declared.CornerKey.{CornerKey}
-use Rattle.cones.proofs.Wider.{first_key, second_key}
+use Rattle.cones.proofs.Wider.{found_says, first_key, second_key}
 use Rattle.cones.proofs.widen.Goals as goal
 
 -- what is found of the case is found of the cone
@@ -32,19 +32,31 @@ widen_half-requires c =
     (first_key k, c.requires.0, c.requires.1)
 
 pub returns-in-Nothing : goal.returns-in-Nothing
-returns-in-Nothing c = same c.args.plug c.args.v c.in-Nothing.is c.widen_nothing.ensures
+returns-in-Nothing c =
+    let e = same c.args.plug c.args.v c.in-Nothing.is c.widen_nothing.ensures.exact in
+    record { exact = e; widened = found_says c.args.plug c.args.v c.requires.0 c.args.cone e }
 
 pub returns-in-Ray : goal.returns-in-Ray
-returns-in-Ray c = same c.args.plug c.args.v c.in-Ray.is c.widen_ray.ensures
+returns-in-Ray c =
+    let e = same c.args.plug c.args.v c.in-Ray.is c.widen_ray.ensures.exact in
+    record { exact = e; widened = found_says c.args.plug c.args.v c.requires.0 c.args.cone e }
 
 pub returns-in-Line : goal.returns-in-Line
-returns-in-Line c = same c.args.plug c.args.v c.in-Line.is c.widen_line.ensures
+returns-in-Line c =
+    let e = same c.args.plug c.args.v c.in-Line.is c.widen_line.ensures.exact in
+    record { exact = e; widened = found_says c.args.plug c.args.v c.requires.0 c.args.cone e }
 
 pub returns-in-Wedge : goal.returns-in-Wedge
-returns-in-Wedge c = same c.args.plug c.args.v c.in-Wedge.is c.widen_wedge.ensures
+returns-in-Wedge c =
+    let e = same c.args.plug c.args.v c.in-Wedge.is c.widen_wedge.ensures.exact in
+    record { exact = e; widened = found_says c.args.plug c.args.v c.requires.0 c.args.cone e }
 
 pub returns-in-Half : goal.returns-in-Half
-returns-in-Half c = same c.args.plug c.args.v c.in-Half.is c.widen_half.ensures
+returns-in-Half c =
+    let e = same c.args.plug c.args.v c.in-Half.is c.widen_half.ensures.exact in
+    record { exact = e; widened = found_says c.args.plug c.args.v c.requires.0 c.args.cone e }
 
 pub returns-in-Around : goal.returns-in-Around
-returns-in-Around c = same c.args.plug c.args.v c.in-Around.is refl
+returns-in-Around c =
+    let e = same c.args.plug c.args.v c.in-Around.is refl in
+    record { exact = e; widened = found_says c.args.plug c.args.v c.requires.0 c.args.cone e }

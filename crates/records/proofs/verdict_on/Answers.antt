@@ -8,4 +8,4 @@ use Rattle.records.proofs.verdict_on.Goals as goal
 
 pub returns : goal.returns
 returns c =
-    given_is ((rw (to_z-of_z w32 _ c.ranges.east, to_z-of_z w32 _ c.ranges.north) at c.judge_front.ensures).on (edges_of c.args.boxes.now) (edges_length c.args.boxes.now) c.flattened.ensures)
+    given_is ((rw (to_z-of_z w32 _ c.ranges.east, to_z-of_z w32 _ c.ranges.north) at c.judge_front.ensures).exact (edges_of c.args.boxes.now) (edges_length c.args.boxes.now) c.flattened.ensures)

@@ -8,7 +8,7 @@ use Rattle.cones.specs.Wider.{Keyed}
 use Rattle.views.specs.declared.View.{View}
 use Rattle.views.proofs.Viewing.{view_keyed}
 use Rattle.supports.specs.Supporting.{support_of_cone}
-use Rattle.supports.proofs.Answering.{corner_surrounds}
+use Rattle.supports.proofs.Answering.{corner_surrounds, corner_found}
 use Rattle.supports.proofs.support_at.Goals as goal
 
 pub is_in_triangle-requires : goal.is_in_triangle-requires
@@ -18,15 +18,17 @@ is_in_triangle-requires c =
 
 pub returns-then-is_in_triangle : goal.returns-then-is_in_triangle
 returns-then-is_in_triangle c =
-    corner_surrounds c.args.plug c.args.corner (boxes_of c.args.boxes.now) (c.is_in_triangle.ensures.surrounded c.if-is_in_triangle.true) c.requires.box_list.0.in_span
+    let e = corner_surrounds c.args.plug c.args.corner (boxes_of c.args.boxes.now) (c.is_in_triangle.ensures.surrounded c.if-is_in_triangle.true) c.requires.box_list.0.in_span in
+    record { exact = e; supports = corner_found c.args.plug c.requires.box_list.1 c.args.corner (boxes_of c.args.boxes.now) c.requires.box_list.0.in_span e }
 
 pub view_of-view-requires : goal.view_of-view-requires
 view_of-view-requires c = c.requires.box_list
 
 pub support_by-requires : goal.support_by-requires
 support_by-requires c =
-    (c.requires.box_list.1, subst (λ (v : View). Keyed v.cone) (sym c.view_of-view.ensures) (view_keyed c.args.plug (boxes_of c.args.boxes.now) c.requires.box_list.0.in_span c.args.corner))
+    (c.requires.box_list.1, subst (λ (v : View). Keyed v.cone) (sym c.view_of-view.ensures.exact) (view_keyed c.args.plug (boxes_of c.args.boxes.now) c.requires.box_list.0.in_span c.args.corner))
 
 pub returns : goal.returns
 returns c =
-    c.support_by.ensures ∙ ap (λ (w : View). support_of_cone c.args.plug w.cone c.args.corner) c.view_of-view.ensures
+    let e = c.support_by.ensures.exact ∙ ap (λ (w : View). support_of_cone c.args.plug w.cone c.args.corner) c.view_of-view.ensures.exact in
+    record { exact = e; supports = corner_found c.args.plug c.requires.box_list.1 c.args.corner (boxes_of c.args.boxes.now) c.requires.box_list.0.in_span e }

@@ -8,6 +8,7 @@ use Rattle.cones.proofs.Wider.{first_key}
 use Rattle.supports.specs.Supporting.{support_of_cone}
 use Rattle.supports.specs.declared.Support.{Support}
 use Rattle.supports.specs.declared.Support.TheVariants.{Reason}
+use Rattle.supports.proofs.Answering.{cone_found}
 use Rattle.supports.proofs.support_by.Goals as goal
 
 -- what is found of the case is found of the cone
@@ -31,19 +32,31 @@ square_to-requires-in-Half c =
     (first_key (subst Keyed c.in-Half.is c.requires.1), c.requires.0)
 
 pub returns-in-Nothing : goal.returns-in-Nothing
-returns-in-Nothing c = same c.args.plug c.args.corner c.in-Nothing.is refl
+returns-in-Nothing c =
+    let e = same c.args.plug c.args.corner c.in-Nothing.is refl in
+    record { exact = e; supports = cone_found c.args.plug c.requires.0 c.args.corner c.args.cone e }
 
 pub returns-in-Ray : goal.returns-in-Ray
-returns-in-Ray c = same c.args.plug c.args.corner c.in-Ray.is (ap Reason c.square_to.ensures)
+returns-in-Ray c =
+    let e = same c.args.plug c.args.corner c.in-Ray.is (ap Reason c.square_to.ensures) in
+    record { exact = e; supports = cone_found c.args.plug c.requires.0 c.args.corner c.args.cone e }
 
 pub returns-in-Line : goal.returns-in-Line
-returns-in-Line c = same c.args.plug c.args.corner c.in-Line.is (ap Reason c.square_to-in-Line.ensures)
+returns-in-Line c =
+    let e = same c.args.plug c.args.corner c.in-Line.is (ap Reason c.square_to-in-Line.ensures) in
+    record { exact = e; supports = cone_found c.args.plug c.requires.0 c.args.corner c.args.cone e }
 
 pub returns-in-Wedge : goal.returns-in-Wedge
-returns-in-Wedge c = same c.args.plug c.args.corner c.in-Wedge.is (ap Reason c.square_to-in-Wedge.ensures)
+returns-in-Wedge c =
+    let e = same c.args.plug c.args.corner c.in-Wedge.is (ap Reason c.square_to-in-Wedge.ensures) in
+    record { exact = e; supports = cone_found c.args.plug c.requires.0 c.args.corner c.args.cone e }
 
 pub returns-in-Half : goal.returns-in-Half
-returns-in-Half c = same c.args.plug c.args.corner c.in-Half.is (ap Reason c.square_to-in-Half.ensures)
+returns-in-Half c =
+    let e = same c.args.plug c.args.corner c.in-Half.is (ap Reason c.square_to-in-Half.ensures) in
+    record { exact = e; supports = cone_found c.args.plug c.requires.0 c.args.corner c.args.cone e }
 
 pub returns-in-Around : goal.returns-in-Around
-returns-in-Around c = same c.args.plug c.args.corner c.in-Around.is refl
+returns-in-Around c =
+    let e = same c.args.plug c.args.corner c.in-Around.is refl in
+    record { exact = e; supports = cone_found c.args.plug c.requires.0 c.args.corner c.args.cone e }

@@ -11,6 +11,7 @@ use Rattle.views.specs.declared.View.{View}
 use Rattle.supports.specs.Supporting.{support_of_cone, support_of_corner, ◌orSupport◌, support_of}
 use Rattle.supports.specs.declared.Support.{Support}
 use Rattle.supports.specs.declared.Support.TheVariants.{Surrounded}
+use Rattle.supports.proofs.Answering.{support_found}
 use Rattle.supports.proofs.support_of.Goals as goal
 
 -- what each corner of every box gives
@@ -46,19 +47,21 @@ support_by-sw-requires c =
     (c.requires.box_list.1, says_keyed bs (corners_of SouthWest bs) (point_of c.args.plug) c.args.view.cone c.requires.corner_view_says.of_cone)
 
 pub returns-in-Reason : goal.returns-in-Reason
-returns-in-Reason c = by-sw c.args.plug (boxes_of c.args.boxes.now) c.args.view (sym c.support_by-sw.ensures ∙ c.in-Reason.is)
+returns-in-Reason c =
+    let e = by-sw c.args.plug (boxes_of c.args.boxes.now) c.args.view (sym c.support_by-sw.ensures.exact ∙ c.in-Reason.is) in
+    record { exact = e; supports = support_found c.args.plug c.requires.box_list.1 (boxes_of c.args.boxes.now) c.requires.box_list.0.in_span c.args.view c.requires.corner_view_says e }
 
 pub returns-in-Reason-se : goal.returns-in-Reason-se
 returns-in-Reason-se c =
-    by-se c.args.plug (boxes_of c.args.boxes.now) c.args.view (sym c.support_by-sw.ensures ∙ c.in_default.is) (sym c.support_at-se.ensures ∙ c.in-Reason-se.is)
+    let e = by-se c.args.plug (boxes_of c.args.boxes.now) c.args.view (sym c.support_by-sw.ensures.exact ∙ c.in_default.is) (sym c.support_at-se.ensures.exact ∙ c.in-Reason-se.is) in
+    record { exact = e; supports = support_found c.args.plug c.requires.box_list.1 (boxes_of c.args.boxes.now) c.requires.box_list.0.in_span c.args.view c.requires.corner_view_says e }
 
 pub returns-in-Reason-ne : goal.returns-in-Reason-ne
 returns-in-Reason-ne c =
-    by-ne c.args.plug (boxes_of c.args.boxes.now) c.args.view (sym c.support_by-sw.ensures ∙ c.in_default.is) (sym c.support_at-se.ensures ∙ c.in_default-se.is)
-    (sym c.support_at-ne.ensures ∙ c.in-Reason-ne.is)
+    let e = by-ne c.args.plug (boxes_of c.args.boxes.now) c.args.view (sym c.support_by-sw.ensures.exact ∙ c.in_default.is) (sym c.support_at-se.ensures.exact ∙ c.in_default-se.is) (sym c.support_at-ne.ensures.exact ∙ c.in-Reason-ne.is) in
+    record { exact = e; supports = support_found c.args.plug c.requires.box_list.1 (boxes_of c.args.boxes.now) c.requires.box_list.0.in_span c.args.view c.requires.corner_view_says e }
 
 pub returns : goal.returns
 returns c =
-    c.support_at.ensures
-    ∙ by-ne c.args.plug (boxes_of c.args.boxes.now) c.args.view (sym c.support_by-sw.ensures ∙ c.in_default.is) (sym c.support_at-se.ensures ∙ c.in_default-se.is)
-    (sym c.support_at-ne.ensures ∙ c.in_default-ne.is)
+    let e = c.support_at.ensures.exact ∙ by-ne c.args.plug (boxes_of c.args.boxes.now) c.args.view (sym c.support_by-sw.ensures.exact ∙ c.in_default.is) (sym c.support_at-se.ensures.exact ∙ c.in_default-se.is) (sym c.support_at-ne.ensures.exact ∙ c.in_default-ne.is) in
+    record { exact = e; supports = support_found c.args.plug c.requires.box_list.1 (boxes_of c.args.boxes.now) c.requires.box_list.0.in_span c.args.view c.requires.corner_view_says e }

@@ -14,7 +14,7 @@ use Rattle.views.specs.declared.View.{View}
 use Rattle.views.proofs.Viewing.{view_says}
 use Rattle.supports.specs.Supporting.{support_of}
 use Rattle.verdicts.specs.Answers.{verdict_by, verdict_from}
-use Rattle.verdicts.proofs.Answering.{outside_from}
+use Rattle.verdicts.proofs.Answering.{outside_from, judged_found}
 use Rattle.verdicts.proofs.judge.Goals as goal
 
 -- the view of the south-west corners, what it says, and what is given by it
@@ -27,31 +27,32 @@ given plug bs e = ap (verdict_from plug bs) e
 pub is_separated-requires : goal.is_separated-requires
 is_separated-requires c =
     let bs = boxes_of c.args.boxes.now in
-    (c.requires.0, says_keyed bs (corners_of SouthWest bs) (point_of c.args.plug) c.view_of-view.result.cone (says c.args.plug bs c.requires.0.in_span c.view_of-view.ensures).of_cone, c.requires.1)
+    (c.requires.0, says_keyed bs (corners_of SouthWest bs) (point_of c.args.plug) c.view_of-view.result.cone (says c.args.plug bs c.requires.0.in_span c.view_of-view.ensures.exact).of_cone, c.requires.1)
 
 pub returns-then-is_separated : goal.returns-then-is_separated
 returns-then-is_separated c =
-    outside_from c.args.plug c.requires.1 (boxes_of c.args.boxes.now) c.requires.0.in_span c.requires.0.ordered (c.is_separated.ensures.separated c.if-is_separated.true)
+    let e = outside_from c.args.plug c.requires.1 (boxes_of c.args.boxes.now) c.requires.0.in_span c.requires.0.ordered (c.is_separated.ensures.separated c.if-is_separated.true) in
+    record { exact = e; judged = judged_found c.args.plug c.requires.1 (boxes_of c.args.boxes.now) c.requires.0.in_span e }
 
 pub balance_of-balance-requires : goal.balance_of-balance-requires
 balance_of-balance-requires c =
-    record { box_list = c.requires; corner_view_says = says c.args.plug (boxes_of c.args.boxes.now) c.requires.0.in_span c.view_of-view.ensures }
+    record { box_list = c.requires; corner_view_says = says c.args.plug (boxes_of c.args.boxes.now) c.requires.0.in_span c.view_of-view.ensures.exact }
 
 pub returns-in_default : goal.returns-in_default
 returns-in_default c =
-    let bs = boxes_of c.args.boxes.now in
-    ap (λ b. verdict_by b (support_of c.args.plug bs c.view_of-view.result)) (sym c.in_default.is ∙ c.balance_of-balance.ensures) ∙ given c.args.plug bs c.view_of-view.ensures
+    let e = let bs = boxes_of c.args.boxes.now in ap (λ b. verdict_by b (support_of c.args.plug bs c.view_of-view.result)) (sym c.in_default.is ∙ c.balance_of-balance.ensures.exact) ∙ given c.args.plug bs c.view_of-view.ensures.exact in
+    record { exact = e; judged = judged_found c.args.plug c.requires.1 (boxes_of c.args.boxes.now) c.requires.0.in_span e }
 
 pub support_of-support-requires : goal.support_of-support-requires
 support_of-support-requires c =
-    record { box_list = c.requires; corner_view_says = says c.args.plug (boxes_of c.args.boxes.now) c.requires.0.in_span c.view_of-view.ensures }
+    record { box_list = c.requires; corner_view_says = says c.args.plug (boxes_of c.args.boxes.now) c.requires.0.in_span c.view_of-view.ensures.exact }
 
 pub returns-in_default-support : goal.returns-in_default-support
 returns-in_default-support c =
-    ap₂ verdict_by (sym c.in-Reason.is ∙ c.balance_of-balance.ensures) (sym c.in_default-support.is ∙ c.support_of-support.ensures)
-    ∙ given c.args.plug (boxes_of c.args.boxes.now) c.view_of-view.ensures
+    let e = ap₂ verdict_by (sym c.in-Reason.is ∙ c.balance_of-balance.ensures.exact) (sym c.in_default-support.is ∙ c.support_of-support.ensures.exact) ∙ given c.args.plug (boxes_of c.args.boxes.now) c.view_of-view.ensures.exact in
+    record { exact = e; judged = judged_found c.args.plug c.requires.1 (boxes_of c.args.boxes.now) c.requires.0.in_span e }
 
 pub returns : goal.returns
 returns c =
-    ap₂ verdict_by (sym c.in-Reason.is ∙ c.balance_of-balance.ensures) (sym c.in-Reason-support.is ∙ c.support_of-support.ensures)
-    ∙ given c.args.plug (boxes_of c.args.boxes.now) c.view_of-view.ensures
+    let e = ap₂ verdict_by (sym c.in-Reason.is ∙ c.balance_of-balance.ensures.exact) (sym c.in-Reason-support.is ∙ c.support_of-support.ensures.exact) ∙ given c.args.plug (boxes_of c.args.boxes.now) c.view_of-view.ensures.exact in
+    record { exact = e; judged = judged_found c.args.plug c.requires.1 (boxes_of c.args.boxes.now) c.requires.0.in_span e }

@@ -33,4 +33,4 @@ pub returns : goal.returns
 returns c =
     let a : verdict_fault c.args.boxes.now (point c.args.east c.args.north) ≡ Fault.none = sym (moved (λ p. fault_of c.check_verdict-checked.result ≡ verdict_fault c.args.boxes.now p) (to_z-of_z w32 _ c.ranges.east) (to_z-of_z w32 _ c.ranges.north) c.check_verdict-checked.ensures) ∙ ap fault_of c.in_default.is in
     let k = moved (λ p. c.key_of-plug.result ≡ key_at p) (to_z-of_z w32 _ c.ranges.east) (to_z-of_z w32 _ c.ranges.north) (one_key c.key_of-plug.ensures) in
-    given_is (c.judge.ensures ∙ judged_given c.args.boxes.now (point c.args.east c.args.north) c.key_of-plug.result k a)
+    given_is (c.judge.ensures.exact ∙ judged_given c.args.boxes.now (point c.args.east c.args.north) c.key_of-plug.result k a)
