@@ -16,7 +16,9 @@ def read_crates():
         if line.startswith("#"):
             heading = line[1:].strip()
         elif ":" in line:
+            # A static library is `NAME staticlib: ..`.
             name, needs = line.split(":")
+            name = name.split()[0]
             uses[name] = needs.split()
             under[name] = heading
     for name in uses:
