@@ -1,6 +1,5 @@
 -- From what each polygon of some boxes says of the plug to the plug's one word. Assumes nothing.
-use mathlib.Core.Path.{◌≡◌, ap}
-use mathlib.Core.Bool.{Bool, true, false, not}
+use mathlib.Core.Bool.{true, false}
 use mathlib.Core.Logic.{⊎_elim}
 use mathlib.Core.List.{List, map}
 use Prim.Native.Nat.{ℕ, ◌+◌, ◌≤◌}
@@ -35,11 +34,6 @@ on_not_within h = record { says = λ qs P. (h.says qs P).0 }
 
 pub off_not_within : {ks : List ℕ} {k : ℕ} → PlaceOf ks k Off → WithinOf ks k false
 off_not_within h = record { says = λ qs P. separated_supported _ (h.says qs P) }
-
--- a test of whether the answer is no
-pub opposite : (r b : Bool) → not r ≡ b → r ≡ not b
-opposite true b e = ap not e
-opposite false b e = ap not e
 
 -- strictly within is in the hull
 not_supported : (vs : List Point) → (Supported vs → ⊥) → Balanced vs
