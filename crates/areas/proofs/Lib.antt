@@ -1,2 +1,4 @@
--- Listing: the two calls' promises.
+-- Listing:  the two calls' answers, by equations.
+-- Promised: the promises with the fault first, which follow.
 pub mod Listing
+pub mod Promised

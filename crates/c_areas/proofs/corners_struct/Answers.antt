@@ -1,0 +1,17 @@
+-- `c_areas::corners_struct` meets its contract: each arm gives its case's struct. Assumes nothing.
+use mathlib.Core.Path.{sym, ap, ◌∙◌}
+use Prim.Native.Nat.{ℕ}
+use Rattle.c_areas.specs.Areas.{corners_struct}
+use Rattle.c_areas.specs.declared.CornersAnswer.{CornersAnswer}
+use Rattle.c_areas.proofs.corners_struct.Goals as goal
+
+-- a refusal's numbers
+abbrev refusal : ℕ → ℕ → CornersAnswer
+refusal n place = record { refused = n; place = place; southwest = 0; southeast = 0; northeast = 0; northwest = 0 }
+
+pub returns-in-Vertices : goal.returns-in-Vertices
+returns-in-Vertices c = sym (ap corners_struct c.in-Vertices.is)
+
+pub returns-in-Refused : goal.returns-in-Refused
+returns-in-Refused c =
+    ap (λ n. refusal n c.in-Refused.refusal.place) c.number_of.ensures ∙ sym (ap corners_struct c.in-Refused.is)
