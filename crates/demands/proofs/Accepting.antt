@@ -7,7 +7,7 @@ use lib.IntN.{ℤ}
 use Rattle.plane.specs.Points.{Point}
 use Rattle.plane.specs.Members.{All}
 use Rattle.rounds.specs.Boxes.{Ordered, boxes_of}
-use Rattle.rounds.specs.Refusals.{Fault, fault, verdict_fault}
+use Rattle.rounds.specs.Refusals.{Fault, verdict_fault}
 use Rattle.rounds.specs.Replies.{result, reply_under}
 use Rattle.rounds.specs.Words.{Means, word_of}
 use Rattle.rounds.specs.declared.Word.{Word}

@@ -10,14 +10,14 @@ use Rattle.plane.specs.Points.{Point}
 use Rattle.plane.specs.Members.{All}
 use Rattle.rounds.specs.Boxes.{Ordered, boxes_of}
 use Rattle.rounds.specs.Reasons.{Reasoned}
-use Rattle.rounds.specs.Refusals.{Fault, fault, when, beyond, input_fault, plug_fault}
+use Rattle.rounds.specs.Refusals.{Fault, when, beyond, input_fault, plug_fault}
 use Rattle.rounds.specs.Replies.{result, reply_under}
 use Rattle.rounds.specs.Words.{Means, word_of}
 use Rattle.rounds.specs.declared.Box.{Box}
 use Rattle.rounds.specs.declared.Cause.TheVariants.{PlugBeyond}
 use Rattle.rounds.specs.declared.Reasons.{Reasons}
 use Rattle.rounds.specs.declared.Word.{Word}
-use Rattle.rounds.specs.declared.Word.TheVariants.{Inside, Outside, Undecided}
+use Rattle.rounds.specs.declared.Word.TheVariants.{Inside, Outside}
 use Rattle.rounds.proofs.Accepted.{or_else_none, accepted}
 use Rattle.rounds.proofs.Corners.{corner_pick, reason_supported}
 use Rattle.rounds.proofs.Entries.{mean_pick, mean_pick_chosen, second_succeeds}

@@ -9,7 +9,7 @@ use Rattle.integers.proofs.Expr.{#◌, ◌⊕◌, ◌⊗◌, ◌≼◌, ◌≺�
 use Rattle.integers.proofs.Lin.{lin}
 use Rattle.integers.proofs.Cert.{cert, hyp, ◌∵◌}
 use Rattle.plane.specs.Points.{Point}
-use Rattle.plane.specs.Members.{All, none, ◌∈◌}
+use Rattle.plane.specs.Members.{All, ◌∈◌}
 use Rattle.plane.specs.Vectors.{from, along, Supported, Balanced, Separated}
 use Rattle.plane.specs.Polygons.{Polygon}
 use Rattle.plane.proofs.Lists.{all_at, all_of, all_map, all_unmap, in_map}
