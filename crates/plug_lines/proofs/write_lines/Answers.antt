@@ -10,22 +10,6 @@ use Rattle.plug_lines.specs.Steps.{most_plug_line, LineBy}
 use Rattle.texts.proofs.Writing.{wrote_as}
 use Rattle.plug_lines.proofs.Lines.{sofar_none, sofar_length, sofar_room, sofar_part, sofar_more, sofar_all}
 use Rattle.plug_lines.proofs.write_lines.Goals as goal
-use Rattle.plug_lines.proofs.write_lines.Goals.{After-write_plug_line-done, In-loop-k}
-
--- there is room for one line more
-room : (d : In-loop-k) → d.loop-k.done + most_plug_line ≤ length d.loop-k.out
-room d = sofar_room _ _ _ _ _ d.requires.1 d.loop-k.invariant d.loop-k-test.true
-
--- the line that was written
-abbrev Line : (w : After-write_plug_line-done) → Point → Type 0
-Line w p =
-    let a = w.args in
-    let l = w.loop-k in
-    LineBy a.vertices.now a.polygons.counts (a.before + l.k + 1) p (take (length l.out - l.done) (drop l.done l.out)) w.write_plug_line-done.result w.write_plug_line-done.new.out
-
-is-line : (w : After-write_plug_line-done)
-    → Line w (plug_at w.args.plugs.now (w.loop-k.k * 2))
-is-line w = subst (Line w) (search rules) w.write_plug_line-done.ensures
 
 pub loop-k-init : goal.loop-k-init
 loop-k-init c = sofar_none _ _ _ _ _ c.requires.1
@@ -74,8 +58,8 @@ loop-k-preserved c =
     let a = c.args in
     let l = c.loop-k in
     LineBy a.vertices.now a.polygons.counts (a.before + l.k + 1) p (take (length l.out - l.done) (drop l.done l.out)) c.write_plug_line-done.result c.write_plug_line-done.new.out in
-    let is-line : Line (plug_at c.args.plugs.now (c.loop-k.k * 2)) = subst (Line) (search rules) c.write_plug_line-done.ensures in
-    sofar_more _ _ _ _ _ c.requires.1 c.loop-k.invariant c.loop-k-test.true (is-line).word (is-line).wrote
+    let is-line : Line (plug_at c.args.plugs.now (c.loop-k.k * 2)) = subst Line (search rules) c.write_plug_line-done.ensures in
+    sofar_more _ _ _ _ _ c.requires.1 c.loop-k.invariant c.loop-k-test.true is-line.word is-line.wrote
 
 pub overflow_add-done : goal.overflow_add-done
 overflow_add-done c =

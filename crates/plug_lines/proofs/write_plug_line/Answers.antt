@@ -1,5 +1,4 @@
--- `plug_lines::write_plug_line` meets its contract: the word stands behind the number. In the answers n, w and r are the places after the number, the word and the
--- reply's text. Assumes nothing.
+-- `plug_lines::write_plug_line` meets its contract: the word stands behind the number. Assumes nothing.
 use mathlib.Core.Path.{subst}
 use native.Mathlib.Omega.{arith}
 use borrow.Author.Rules.{rules}
@@ -8,14 +7,6 @@ use Rattle.texts.specs.Text.{plug_line}
 use Rattle.plug_words.specs.Plugs.{WordBy}
 use Rattle.texts.proofs.Writing.{then_wrote, both_fit}
 use Rattle.plug_lines.proofs.write_plug_line.Goals as goal
-use Rattle.plug_lines.proofs.write_plug_line.Goals.{After-word_of-reply}
-
--- what the callee says of the plug
-abbrev Word : After-word_of-reply → Point → Type 0
-Word w p = let a = w.args in WordBy a.vertices.now a.polygons.counts p w.word_of-reply.result
-
-is_word : (w : After-word_of-reply) → let a = w.args in Word w (point a.east a.north)
-is_word w = subst (Word w) (search rules) w.word_of-reply.ensures
 
 pub overflow_add-result : goal.overflow_add-result
 overflow_add-result c =
@@ -25,7 +16,7 @@ pub returns : goal.returns
 unfolding plug_line
 returns c =
     let Word : Point → Type 0 = λ p. let a = c.args in WordBy a.vertices.now a.polygons.counts p c.word_of-reply.result in
-    let is_word : let a = c.args in Word (point a.east a.north) = subst (Word) (search rules) c.word_of-reply.ensures in
+    let is_word : let a = c.args in Word (point a.east a.north) = subst Word (search rules) c.word_of-reply.ensures in
     record {
       reply = c.word_of-reply.result;
       word = is_word;

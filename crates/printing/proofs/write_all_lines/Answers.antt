@@ -7,12 +7,6 @@ use Rattle.texts.proofs.Writing.{wrote_as}
 use Rattle.text_parts.specs.Steps.{most_piece}
 use Rattle.printing.proofs.Pieces.{sofar_none, sofar_within, sofar_length, sofar_room, sofar_part, sofar_more, sofar_all}
 use Rattle.printing.proofs.write_all_lines.Goals as goal
-use Rattle.printing.proofs.write_all_lines.Goals.{In-loop-done}
-
--- room for the next piece
-room : (d : In-loop-done) → let l = d.loop-done in
-    l.bytes + most_plug_line * min (d.args.plugs - l.done) most_piece ≤ length l.out
-room d = sofar_room d.requires.1 d.loop-done.invariant
 
 pub loop-done-init : goal.loop-done-init
 loop-done-init c = sofar_none c.requires.1 c.requires.0

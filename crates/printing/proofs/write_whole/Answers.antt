@@ -6,15 +6,6 @@ use Rattle.plug_lines.specs.Steps.{most_plug_line}
 use Rattle.texts.proofs.Writing.{then_wrote, room_after, room_behind, wrote_as, both_fit}
 use Rattle.text_parts.specs.Steps.{LinesFollow}
 use Rattle.printing.proofs.write_whole.Goals as goal
-use Rattle.printing.proofs.write_whole.Goals.{Else-plugs-eq0}
-
--- what is left is told, and has room
-follows : (e : Else-plugs-eq0) → LinesFollow e.args.file.now e.open_text-opening.new.vertices e.open_text-opening.ensures.opening e.open_text-opening.result
-follows e = e.open_text-opening.ensures.more (omega (arith, e.if-plugs-eq0.false))
-
-room : (e : Else-plugs-eq0) → length e.open_text-opening.ensures.opening + most_plug_line * e.open_text-opening.result.plugs ≤ length e.args.text.now
-room e =
-    omega (arith, e.open_text-opening.ensures.wrote.counted, (follows e).few, (follows e).waiting.few, e.requires.for_text)
 
 pub returns-then-plugs-eq0 : goal.returns-then-plugs-eq0
 returns-then-plugs-eq0 c =
@@ -25,22 +16,22 @@ pub slice_bounds-write_all_lines-count : goal.slice_bounds-write_all_lines-count
 slice_bounds-write_all_lines-count c =
     let follows : LinesFollow c.args.file.now c.open_text-opening.new.vertices c.open_text-opening.ensures.opening c.open_text-opening.result = c.open_text-opening.ensures.more (omega (arith, c.if-plugs-eq0.false)) in
     let room : length c.open_text-opening.ensures.opening + most_plug_line * c.open_text-opening.result.plugs ≤ length c.args.text.now =
-    omega (arith, c.open_text-opening.ensures.wrote.counted, (follows).few, (follows).waiting.few, c.requires.for_text) in
-    omega (arith, room_after _ c.open_text-opening.ensures.wrote (room))
+    omega (arith, c.open_text-opening.ensures.wrote.counted, follows.few, follows.waiting.few, c.requires.for_text) in
+    omega (arith, room_after _ c.open_text-opening.ensures.wrote room)
 
 pub slice_bounds-write_all_lines-start : goal.slice_bounds-write_all_lines-start
 slice_bounds-write_all_lines-start c =
     let follows : LinesFollow c.args.file.now c.open_text-opening.new.vertices c.open_text-opening.ensures.opening c.open_text-opening.result = c.open_text-opening.ensures.more (omega (arith, c.if-plugs-eq0.false)) in
     let room : length c.open_text-opening.ensures.opening + most_plug_line * c.open_text-opening.result.plugs ≤ length c.args.text.now =
-    omega (arith, c.open_text-opening.ensures.wrote.counted, (follows).few, (follows).waiting.few, c.requires.for_text) in
-    omega (arith, room_after _ c.open_text-opening.ensures.wrote (room))
+    omega (arith, c.open_text-opening.ensures.wrote.counted, follows.few, follows.waiting.few, c.requires.for_text) in
+    omega (arith, room_after _ c.open_text-opening.ensures.wrote room)
 
 pub write_all_lines-requires : goal.write_all_lines-requires
 write_all_lines-requires c =
     let follows : LinesFollow c.args.file.now c.open_text-opening.new.vertices c.open_text-opening.ensures.opening c.open_text-opening.result = c.open_text-opening.ensures.more (omega (arith, c.if-plugs-eq0.false)) in
     let room : length c.open_text-opening.ensures.opening + most_plug_line * c.open_text-opening.result.plugs ≤ length c.args.text.now =
-    omega (arith, c.open_text-opening.ensures.wrote.counted, (follows).few, (follows).waiting.few, c.requires.for_text) in
-    ((follows).waiting, room_behind _ c.open_text-opening.ensures.wrote (room))
+    omega (arith, c.open_text-opening.ensures.wrote.counted, follows.few, follows.waiting.few, c.requires.for_text) in
+    (follows.waiting, room_behind _ c.open_text-opening.ensures.wrote room)
 
 pub overflow_add-result : goal.overflow_add-result
 overflow_add-result c =
@@ -51,6 +42,6 @@ pub returns : goal.returns
 returns c =
     let follows : LinesFollow c.args.file.now c.open_text-opening.new.vertices c.open_text-opening.ensures.opening c.open_text-opening.result = c.open_text-opening.ensures.more (omega (arith, c.if-plugs-eq0.false)) in
     let room : length c.open_text-opening.ensures.opening + most_plug_line * c.open_text-opening.result.plugs ≤ length c.args.text.now =
-    omega (arith, c.open_text-opening.ensures.wrote.counted, (follows).few, (follows).waiting.few, c.requires.for_text) in
+    omega (arith, c.open_text-opening.ensures.wrote.counted, follows.few, follows.waiting.few, c.requires.for_text) in
     let l = c.write_all_lines in
-    wrote_as (follows).is (then_wrote c.open_text-opening.ensures.wrote (omega (arith, room)) l.ensures)
+    wrote_as follows.is (then_wrote c.open_text-opening.ensures.wrote (omega (arith, room)) l.ensures)
