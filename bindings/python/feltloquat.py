@@ -261,14 +261,15 @@ def _fits(view: memoryview, kind: _Kind, dimensions: int = 1) -> bool:
 
 
 def _listed(values: Any, name: str, items: str) -> list[Any]:
+    fault = "%s is no list of %s but of type %s" % (name, items, type(values).__name__)
     try:
         numbers = iter(values)
-    except TypeError:
-        raise TypeError("%s is no list of %s but of type %s" % (name, items, type(values).__name__)) from None
+    except (TypeError, NotImplementedError):
+        raise TypeError(fault) from None
     try:
         return list(numbers)
-    except NotImplementedError as error:
-        raise TypeError("%s is a buffer that cannot be read: %s" % (name, error)) from None
+    except NotImplementedError:  # a memoryview of items that it does not read
+        raise TypeError(fault) from None
 
 
 def _lent(values: _Numbers, kind: _Kind, name: str) -> memoryview:

@@ -326,13 +326,13 @@ class Arguments(unittest.TestCase):
             memoryview(array("i", [number for number in ROUND_B for _ in range(2)]))[::2],
             memoryview(array("i", ROUND_B[::-1]))[::-1],
             memoryview(b"\0" + array("i", ROUND_B).tobytes())[1:].cast("i"),
-            *([numpy.array(ROUND_B), numpy.array(ROUND_B * 2).reshape(2, 16).T[:, 0]] if numpy is not None else []),
+            *([numpy.array(ROUND_B), numpy.repeat(numpy.array(ROUND_B, dtype=numpy.int32), 2)[::2]] if numpy is not None else []),
         ]
         for buffer in numbers:
             for name, call in LIST_CALLS.items():
                 self.assertEqual(call(buffer), call(ROUND_B), (name, buffer))
         file = feltloquat.write_round(ROUND_B, [2, 5])
-        for buffer in (array("i", file), array("H", file), memoryview(file[::-1])[::-1]):
+        for buffer in (array("i", list(file)), array("H", list(file)), memoryview(file[::-1])[::-1]):
             for name, call in FILE_CALLS.items():
                 self.assertEqual(call(buffer), call(file), (name, buffer))
         wide = [(ctypes.c_int64 * 4)(*record) for record in rounds.records_of(ROUND_B)]
@@ -343,7 +343,8 @@ class Arguments(unittest.TestCase):
         square = memoryview(array("i", ROUND_B)).cast("B").cast("i", [4, 4])
         for call in LIST_CALLS.values():
             self.raises(TypeError, "[0] is no whole number but of type float", call, array("f", ROUND_B))
-            self.raises(TypeError, "is a buffer that cannot be read", call, square)
+            for buffer in (square, memoryview((ctypes.c_int32.__ctype_be__ * 16)(*ROUND_B))):
+                self.raises(TypeError, "is no list of signed 32-bit numbers but of type memoryview", call, buffer)
             self.raises(OverflowError, "[2] is no signed 32-bit number", call, array("q", [0, 0, 2**31, 4]))
         for call in FILE_CALLS.values():
             self.raises(TypeError, "file[0] is no whole number but of type float", call, array("d", [0]))
