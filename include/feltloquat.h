@@ -46,8 +46,8 @@
  * the verdicts of every round run on a thread of 64 KiB. Not proved but measured (tests/c/stacks.c): no call takes more than is stated, nor
  * less than half of it.
  *
- * Build the library for x86-64 Linux: ./library [PREFIX], which makes libfeltloquat.a, libfeltloquat.so and feltloquat.pc. For C99 or later,
- * or C++.
+ * Build the library for x86-64 Linux: ./library [PREFIX], which makes libfeltloquat.a, libfeltloquat.so and feltloquat.pc. For C89 or later
+ * with <stdint.h> and __inline, as gcc and clang have them, or C++.
  */
 #ifndef FELTLOQUAT_H
 #define FELTLOQUAT_H
@@ -102,7 +102,7 @@ enum feltloquat_cause {
 };
 
 /* A cause in the words of the table; "", never NULL, for 0 and every other number that is no cause. */
-static inline const char *feltloquat_cause_words(uint32_t refused) {
+static __inline const char *feltloquat_cause_words(uint32_t refused) {
     switch (refused) {
     case FELTLOQUAT_LIST_LENGTH: return "box list not a multiple of 4 numbers, or plug list not of 2";
     case FELTLOQUAT_NO_BOX: return "no box";

@@ -13,16 +13,16 @@ list of numbers, four to a box. A plug is an east and a north. Every number is f
     [(0, 0), (0, 10), (10, 0), (10, 10)]
     >>> feltloquat.word([0, 0, 1, 1, 0, 0, 16001, 1], 0, 0)
     Traceback (most recent call last):
-    feltloquat.Refused: refused 4 2: box edge beyond ±16,000
+    feltloquat.Refused: refused 4 2: box edge beyond 16,000
 
 What every call takes:
 
 - A whole number is anything with __index__: an int, a numpy.int64. Else TypeError; beyond signed 32 bits OverflowError.
-- A list of numbers is any iterable of whole numbers, which is copied; or any buffer of signed 32-bit numbers, contiguous and of one
-  dimension (array.array("i"), numpy.int32, memoryview, ctypes), which is lent to the library with no copy. Another buffer is a TypeError.
-- A file is any iterable of whole numbers from 0 to 255 (else ValueError), or any contiguous buffer of bytes, lent with no copy.
-- What a call writes into is a list, or such a buffer that is writable; else TypeError. It may share no memory with the other lists of the
-  call: ValueError.
+- A list of numbers is any iterable of whole numbers, which is copied. A buffer of signed 32-bit numbers that is contiguous, aligned and of
+  one dimension (array.array("i"), numpy.int32, memoryview, ctypes) is lent to the library with no copy.
+- A file is any iterable of whole numbers from 0 to 255 (else ValueError); a contiguous buffer of bytes is lent with no copy.
+- What a call writes into is a list or what is like one, or a buffer whose items hold every number; else TypeError. Such a buffer as above
+  is written in place, and may share no memory with the other lists of the call: ValueError. All else is copied, and then given back.
 
 All that is checked before the library is called. A buffer is held during the call only; nothing else may change it then.
 
@@ -34,7 +34,8 @@ The shared object is linked from the static library by the system's compiler, at
 
     ./library
 
-It is looked for there, or where the environment variable FELTLOQUAT_LIBRARY says; an ImportError says where it was not found.
+It is looked for there, in target/library and then in target/staticlib, or where the environment variable FELTLOQUAT_LIBRARY says; an
+OSError says where it was not found.
 include/feltloquat.h says what each call promises. For CPython.
 """
 
@@ -42,7 +43,7 @@ import ctypes
 import operator
 import os
 import struct
-from collections.abc import Callable, Iterable, Sequence
+from collections.abc import Callable, Iterable, Mapping, MutableSequence, Sequence
 from typing import Any, Literal, NamedTuple, Optional, Protocol, SupportsIndex, Union
 
 __all__ = [
@@ -77,9 +78,9 @@ CAUSES = {
     1: "box list not a multiple of 4 numbers, or plug list not of 2",
     2: "no box",
     3: "more than 1,024 boxes",
-    4: "box edge beyond ±16,000",
+    4: "box edge beyond 16,000",
     5: "west over east, or south over north",
-    6: "plug beyond ±16,000",
+    6: "plug beyond 16,000",
     7: "buffer shorter than needed",
     8: "unknown mark",
     9: "file stops within a record, or with no end record",
@@ -93,12 +94,12 @@ class Refused(ValueError):
     """A call was turned back: the number of the cause in the table, and its place. Equal if both are."""
 
     def __init__(self, number: int, place: int) -> None:
-        super().__init__(number, place)
+        super().__init__("refused %d %d: %s" % (number, place, CAUSES.get(number, "unknown cause")))
         self.number = number
         self.place = place
 
-    def __str__(self) -> str:
-        return "refused %d %d: %s" % (self.number, self.place, CAUSES.get(self.number, "unknown cause"))
+    def __reduce__(self) -> tuple[Any, ...]:
+        return type(self), (self.number, self.place), self.__dict__
 
     def __eq__(self, other: object) -> bool:
         return (self.number, self.place) == (other.number, other.place) if isinstance(other, Refused) else NotImplemented
@@ -139,7 +140,7 @@ class _Buffer(Protocol):
 
 _Numbers = Union[Iterable[SupportsIndex], _Buffer]
 _Records = Union[Iterable[Iterable[SupportsIndex]], _Buffer]
-_Writable = Union[list[int], _Buffer]
+_Writable = Union[MutableSequence[int], _Buffer]
 _Point = tuple[int, int]
 
 
@@ -194,19 +195,21 @@ class _WriteAnswer(_Answer):
 
 
 class _Kind(NamedTuple):
-    """What a list is made of: its code for struct, the codes of buffers that are taken, and the error for a number out of its range."""
+    """What a list is made of: its code for struct; the codes of buffers that are lent with no copy; those whose items, of
+    that size or more, hold every number; and the error for a number out of its range."""
 
     name: str
     code: str
     codes: tuple[str, ...]
+    wide: tuple[str, ...]
     size: int
     least: int
     most: int
     error: type[Exception]
 
 
-_NUMBER = _Kind("signed 32-bit number", "i", ("i", "l"), 4, -(2**31), 2**31 - 1, OverflowError)
-_BYTE = _Kind("byte", "B", ("B", "b", "c"), 1, 0, 255, ValueError)
+_NUMBER = _Kind("signed 32-bit number", "i", ("i", "l"), tuple("ilqn"), 4, -(2**31), 2**31 - 1, OverflowError)
+_BYTE = _Kind("byte", "B", ("B", "b", "c"), tuple("BHILQNhilqn"), 1, 0, 255, ValueError)
 
 
 def _whole_number(value: SupportsIndex, kind: _Kind, name: str) -> int:
@@ -235,7 +238,11 @@ def _copied(values: Sequence[SupportsIndex], kind: _Kind, name_of: Callable[[int
         for place, value in enumerate(values):
             _whole_number(value, kind, name_of(place))
         raise
-    return memoryview(bytearray(packed)).cast(kind.code)
+    return memoryview(_Copy(packed)).cast(kind.code)
+
+
+class _Copy(bytearray):
+    """The memory of a copy."""
 
 
 def _viewed(values: Any) -> Optional[memoryview]:
@@ -246,28 +253,23 @@ def _viewed(values: Any) -> Optional[memoryview]:
         return None
 
 
-def _checked(view: memoryview, kind: _Kind, name: str, dimensions: int = 1, writable: bool = False) -> memoryview:
-    """The same view, if the library can take it."""
-    if view.format.lstrip("@=<") not in kind.codes or view.itemsize != kind.size:
-        fault = "has format %r with %d bytes an item" % (view.format, view.itemsize)
-    elif view.ndim != dimensions:
-        fault = "has ndim %d, not %d" % (view.ndim, dimensions)
-    elif not view.c_contiguous:
-        fault = "is not contiguous"
-    elif writable and view.readonly:
-        fault = "is read-only"
-    else:
-        return view
-    view.release()
-    needed = "writable contiguous" if writable else "contiguous"
-    raise TypeError("%s %s; needed is a %s buffer of %ss" % (name, fault, needed, kind.name))
+def _fits(view: memoryview, kind: _Kind, dimensions: int = 1) -> bool:
+    """Whether the library can take the view's own memory."""
+    if view.format.lstrip("@=<") not in kind.codes or (view.itemsize, view.ndim) != (kind.size, dimensions):
+        return False
+    return view.c_contiguous and _address(view) % kind.size == 0
 
 
-def _iterated(values: Any, name: str, items: str) -> Iterable[Any]:
+def _listed(values: Any, name: str, items: str) -> list[Any]:
+    fault = "%s is no list of %s but of type %s" % (name, items, type(values).__name__)
     try:
-        return iter(values)
-    except TypeError:
-        raise TypeError("%s is no list of %s but of type %s" % (name, items, type(values).__name__)) from None
+        numbers = iter(values)
+    except (TypeError, NotImplementedError):
+        raise TypeError(fault) from None
+    try:
+        return list(numbers)
+    except NotImplementedError:  # a memoryview of items that it does not read
+        raise TypeError(fault) from None
 
 
 def _lent(values: _Numbers, kind: _Kind, name: str) -> memoryview:
@@ -275,40 +277,55 @@ def _lent(values: _Numbers, kind: _Kind, name: str) -> memoryview:
     if not isinstance(values, (list, tuple)):
         view = _viewed(values)
         if view is not None:
-            return _checked(view, kind, name)
-        values = list(_iterated(values, name, kind.name + "s"))
+            if _fits(view, kind):
+                return view
+            view.release()
+        values = _listed(values, name, kind.name + "s")
     return _copied(values, kind, lambda place: "%s[%d]" % (name, place))
 
 
 def _lent_to_write(values: _Writable, kind: _Kind, name: str) -> memoryview:
-    """A list or a buffer for the library to write into. A list is copied, and _give_back writes it."""
-    if isinstance(values, list):
-        return _lent(values, kind, name)
-    view = _viewed(values)
-    if view is None:
+    """A list or a buffer for the library to write into: its own memory, or a copy that _give_back writes there."""
+    view = None if isinstance(values, list) else _viewed(values)
+    if view is not None:
+        fault = ""
+        if view.readonly:
+            fault = "is read-only"
+        elif _fits(view, kind):
+            return view
+        elif view.format.lstrip("@=<>!") not in kind.wide or view.itemsize < kind.size:
+            fault = "has format %r with %d bytes an item" % (view.format, view.itemsize)
+        view.release()
+        if fault:
+            raise TypeError("%s %s; needed is a writable buffer that holds every %s" % (name, fault, kind.name))
+    elif not hasattr(type(values), "__setitem__") or isinstance(values, Mapping):
         raise TypeError("%s is neither a list nor a buffer, but of type %s" % (name, type(values).__name__))
-    return _checked(view, kind, name, writable=True)
+    return _copied(_listed(values, name, kind.name + "s"), kind, lambda place: "%s[%d]" % (name, place))
 
 
-def _give_back(values: _Writable, view: memoryview) -> None:
+def _give_back(values: Any, view: memoryview) -> None:
+    """Writes into a list or a buffer what the library wrote into its copy."""
     if isinstance(values, list):
         values[:] = view.tolist()
+    elif isinstance(view.obj, _Copy):
+        for place, number in enumerate(view):
+            values[place] = number
 
 
 def _lent_records(records: _Records) -> memoryview:
     """Records for the library to read: their edges one behind another, or a buffer of two dimensions."""
     view = None if isinstance(records, (list, tuple)) else _viewed(records)
     if view is not None:
-        view = _checked(view, _NUMBER, "records", dimensions=2)
-        columns = view.shape[1]
-        if columns != 4:
-            view.release()
-            raise ValueError("records have %d edges each, not 4" % columns)
-        return view
+        fits, shape = _fits(view, _NUMBER, dimensions=2), view.shape
+        if fits and shape[1] == 4:
+            return view
+        view.release()
+        if fits:
+            raise ValueError("records have %d edges each, not 4" % shape[1])
     edges: list[SupportsIndex] = []
-    for place, record in enumerate(_iterated(records, "records", "records")):
+    for place, record in enumerate(_listed(records, "records", "records")):
         if not isinstance(record, (list, tuple)):
-            record = list(_iterated(record, "records[%d]" % place, "four edges"))
+            record = _listed(record, "records[%d]" % place, "four edges")
         if len(record) != 4:
             raise ValueError("records[%d] has %d edges, not 4" % (place, len(record)))
         edges += record
@@ -340,47 +357,43 @@ _release_buffer = ctypes.PYFUNCTYPE(None, ctypes.POINTER(_PyBuffer))(("PyBuffer_
 _NOTHING = ctypes.c_int64()
 
 
-def _address(view: memoryview, alignment: int) -> int:
+def _address(view: memoryview) -> int:
     """Where a view's memory starts; it stays there until the view is released. With no item, anywhere that is aligned."""
     if not view.nbytes:
         return ctypes.addressof(_NOTHING)
     buffer = _PyBuffer()
     _get_buffer(view, buffer, 0)
-    address = buffer.buf
     _release_buffer(buffer)
-    if address % alignment:
-        raise TypeError("a buffer starts at an address that is no multiple of %d" % alignment)
-    return address
+    return buffer.buf
 
 
 # ---- the library
 
 _ROOT = os.path.dirname(os.path.dirname(os.path.dirname(os.path.realpath(__file__))))
-_PLACE = os.environ.get("FELTLOQUAT_LIBRARY") or os.path.join(_ROOT, "target", "library", "libfeltloquat.so")
+_PLACES = [os.path.join(_ROOT, "target", folder, "libfeltloquat.so") for folder in ("library", "staticlib")]
+_PLACE = os.environ.get("FELTLOQUAT_LIBRARY") or next(filter(os.path.exists, _PLACES), _PLACES[0])
 _BUILD = "./library"
 
 
-def _import_error(fault: Exception) -> ImportError:
-    return ImportError(
+def _not_found(fault: Exception) -> OSError:
+    return OSError(
         "feltloquat's shared object was looked for at %s, in vain: %s\n"
         "Build it at the root of the repository:\n    %s\n"
-        "or say where it is in the environment variable FELTLOQUAT_LIBRARY." % (_PLACE, fault, _BUILD),
-        name=__name__,
-        path=_PLACE,
+        "or say where it is in the environment variable FELTLOQUAT_LIBRARY." % (_PLACE, fault, _BUILD)
     )
 
 
 try:
     _library = ctypes.CDLL(_PLACE)
 except OSError as error:
-    raise _import_error(error) from error
+    raise _not_found(error) from error
 
 
 def _function(name: str, result: Any, arguments: list[Any]) -> Any:
     try:
         function = getattr(_library, "feltloquat_" + name)
     except AttributeError as error:
-        raise _import_error(error) from error
+        raise _not_found(error) from error
     function.restype = result
     function.argtypes = arguments
     return function
@@ -389,21 +402,21 @@ def _function(name: str, result: Any, arguments: list[Any]) -> Any:
 def _declare(name: str, answer: Any, read: list[Any], written: list[Any], numbers: int = 0) -> Callable[..., Any]:
     """A call of the library: pointers and lengths for the lists that it reads, then for those that it writes; then 32-bit numbers. The call
     takes views and numbers. A refused answer is raised."""
-    kinds = [(ctypes.sizeof(item), ctypes.alignment(item)) for item in read + written]
-    function = _function(name, answer, [ctypes.c_void_p, ctypes.c_size_t] * len(kinds) + [ctypes.c_int32] * numbers)
+    sizes = [ctypes.sizeof(item) for item in read + written]
+    function = _function(name, answer, [ctypes.c_void_p, ctypes.c_size_t] * len(sizes) + [ctypes.c_int32] * numbers)
 
     def call(*arguments: Any) -> Any:
         words: list[int] = []
         spans: list[tuple[int, int]] = []
-        for view, (size, alignment) in zip(arguments, kinds):
-            start = _address(view, alignment)
+        for view, size in zip(arguments, sizes):
+            start = _address(view)
             words += (start, view.nbytes // size)
             spans.append((start, start + view.nbytes))
-        for place in range(len(read), len(kinds)):
+        for place in range(len(read), len(sizes)):
             start, end = spans[place]
             if any(start < other_end and other_start < end for other_start, other_end in spans[:place]):
                 raise ValueError("a buffer to be written shares memory with another list of the call")
-        result = function(*words, *arguments[len(kinds) :])
+        result = function(*words, *arguments[len(sizes) :])
         if result.refused:
             raise Refused(result.refused, result.place)
         return result
@@ -481,8 +494,8 @@ def word(boxes: _Numbers, east: SupportsIndex, north: SupportsIndex) -> _Word:
 
 
 def verdict_on_records(records: _Records, east: SupportsIndex, north: SupportsIndex) -> Verdict:
-    """The same Verdict for boxes given as records: any iterable of iterables of four edges (west, south, east, north), or a buffer of signed
-    32-bit numbers with two dimensions, the second of 4, lent with no copy. A record with another number of edges is a ValueError, before any
+    """The same Verdict for boxes given as records: any iterable of iterables of four edges (west, south, east, north); a buffer of signed
+    32-bit numbers with two dimensions, the second of 4, is lent with no copy. A record with another number of edges is a ValueError, before any
     call, that is not Refused: the table has no such cause. Refused by 2 to 5, then 6 with place 1."""
     with _lent_records(records) as lent:
         return _verdict_of(_verdict_on_records(lent, *_plug(east, north)))
@@ -550,5 +563,5 @@ def print_round(file: _Numbers) -> str:
     """The text that the printing program prints for a round file: one line 'refused NUMBER PLACE', 12 for more than 65,536 bytes; or
     'boxes COUNT plugs COUNT', then per plug its number and a word, or its number and 'refused 6'."""
     with _lent(file, _BYTE, "file") as lent, _blank(131072, _BYTE) as text:
-        count = _print_round(_address(lent, 1), len(lent), _address(text, 1))
+        count = _print_round(_address(lent), len(lent), _address(text))
         return str(text[:count], "ascii")

@@ -22,6 +22,7 @@ import typing
 import unittest
 import unittest.mock
 from array import array
+from collections import UserList, deque
 
 try:
     import numpy
@@ -194,7 +195,8 @@ class Arguments(unittest.TestCase):
         pickled = [pickle.loads(pickle.dumps(refused, protocol)) for protocol in range(pickle.HIGHEST_PROTOCOL + 1)]
         for other in pickled + [copy.copy(refused), copy.deepcopy(refused)]:
             self.assertIs(type(other), feltloquat.Refused)
-            self.assertEqual((other.number, other.place, str(other)), (4, 2, "refused 4 2: box edge beyond ±16,000"))
+            self.assertEqual((other.number, other.place, str(other)), (4, 2, "refused 4 2: box edge beyond 16,000"))
+            self.assertEqual(other.args, ("refused 4 2: box edge beyond 16,000",))
             self.assertEqual((other, hash(other)), (refused, hash(refused)))
         for other in (feltloquat.Refused(4, 1), feltloquat.Refused(5, 2), ValueError(4, 2), (4, 2)):
             self.assertNotEqual(refused, other)
@@ -308,39 +310,74 @@ class Arguments(unittest.TestCase):
             self.raises(TypeError, "buffer is read-only", call, [], frozen)
             self.raises(TypeError, "buffer is neither a list nor a buffer", call, ROUND_B, (7,) * 32)
             self.raises(TypeError, "buffer is neither a list nor a buffer", call, ROUND_B, iter([7] * 32))
+            self.raises(TypeError, "buffer is neither a list nor a buffer", call, ROUND_B, dict.fromkeys(range(32)))
             self.raises(TypeError, "buffer[31] is no whole number", call, ROUND_B, [7] * 31 + [7.0])
         self.raises(TypeError, "boxes is read-only", feltloquat.read_round_into, file, frozen, plugs)
         self.raises(TypeError, "plugs is read-only", feltloquat.read_round_into, file, boxes, frozen)
         self.raises(TypeError, "file is read-only", feltloquat.write_round_into, ROUND_B, [2, 5], bytes(90))
         self.assertEqual((boxes, plugs, list(own)), ([7] * 16, [7] * 2, [7] * 32))
 
-    def test_other_buffers(self):
-        wide = array("q", ROUND_B)
-        unaligned = memoryview(b"\0" + array("i", ROUND_B).tobytes())[1:].cast("i")
-        faults = {
-            "format 'q' with 8 bytes": wide,
-            "format 'l' with 8 bytes": array("l", ROUND_B),
-            "format 'I' with 4 bytes": array("I", ROUND_B),
-            "format 'f' with 4 bytes": array("f", ROUND_B),
-            "format 'h' with 2 bytes": array("h", ROUND_B),
-            "format 'B' with 1 bytes": bytes(ROUND_B),
-            "format '>i' with 4 bytes": (ctypes.c_int32.__ctype_be__ * 16)(*ROUND_B),
-            "is not contiguous": memoryview(array("i", ROUND_B * 2))[::2],
-            "ndim 2, not 1": memoryview(array("i", ROUND_B)).cast("B").cast("i", [4, 4]),
-            "no multiple of 4": unaligned,
-        }
-        for text, buffer in faults.items():
-            for call in LIST_CALLS.values():
-                self.raises(TypeError, text, call, buffer)
-        for buffer in (array("i", [0]), array("H", [0]), array("d", [0])):
-            for call in FILE_CALLS.values():
-                self.raises(TypeError, "format '%s'" % buffer.typecode, call, buffer)
-        self.raises(TypeError, "ndim 1, not 2", feltloquat.verdict_on_records, array("i", ROUND_B), 2, 5)
-        self.raises(TypeError, "format 'q'", feltloquat.verdict_on_records, memoryview(wide).cast("B").cast("q", [4, 4]), 2, 5)
+    def test_other_buffers_are_copied(self):
+        numbers = [
+            *(array(code, ROUND_B) for code in "qlILHhBb"),
+            bytes(ROUND_B),
+            (ctypes.c_int64 * 16)(*ROUND_B),
+            (ctypes.c_int32.__ctype_be__ * 16)(*ROUND_B),
+            memoryview(array("i", [number for number in ROUND_B for _ in range(2)]))[::2],
+            memoryview(array("i", ROUND_B[::-1]))[::-1],
+            memoryview(b"\0" + array("i", ROUND_B).tobytes())[1:].cast("i"),
+            *([numpy.array(ROUND_B), numpy.repeat(numpy.array(ROUND_B, dtype=numpy.int32), 2)[::2]] if numpy is not None else []),
+        ]
+        for buffer in numbers:
+            for name, call in LIST_CALLS.items():
+                self.assertEqual(call(buffer), call(ROUND_B), (name, buffer))
+        file = feltloquat.write_round(ROUND_B, [2, 5])
+        for buffer in (array("i", list(file)), array("H", list(file)), memoryview(file[::-1])[::-1]):
+            for name, call in FILE_CALLS.items():
+                self.assertEqual(call(buffer), call(file), (name, buffer))
+        wide = [(ctypes.c_int64 * 4)(*record) for record in rounds.records_of(ROUND_B)]
+        for records in (wide, (ctypes.c_int64 * 4 * 4)(*wide)):
+            self.assertEqual(feltloquat.verdict_on_records(records, 2, 5), feltloquat.verdict(ROUND_B, 2, 5))
+
+    def test_buffers_that_are_no_lists(self):
+        square = memoryview(array("i", ROUND_B)).cast("B").cast("i", [4, 4])
+        for call in LIST_CALLS.values():
+            self.raises(TypeError, "[0] is no whole number but of type float", call, array("f", ROUND_B))
+            for buffer in (square, memoryview((ctypes.c_int32.__ctype_be__ * 16)(*ROUND_B))):
+                self.raises(TypeError, "is no list of signed 32-bit numbers but of type memoryview", call, buffer)
+            self.raises(OverflowError, "[2] is no signed 32-bit number", call, array("q", [0, 0, 2**31, 4]))
+        for call in FILE_CALLS.values():
+            self.raises(TypeError, "file[0] is no whole number but of type float", call, array("d", [0]))
+            self.raises(ValueError, "file[0] is no byte", call, array("H", [0x15B, 0x100]))
+        self.raises(TypeError, "records[0] is no list of four edges", feltloquat.verdict_on_records, array("i", ROUND_B), 2, 5)
+
+    def test_other_targets_are_copied_and_given_back(self):
         for call in (feltloquat.outer_polygon_into, feltloquat.corner_polygons_into):
-            self.raises(TypeError, "buffer has format 'q'", call, ROUND_B, array("q", [0] * 32))
-            self.raises(TypeError, "no multiple of 4", call, ROUND_B, memoryview(bytearray(133))[1:129].cast("i"))
-            self.raises(TypeError, "not contiguous", call, ROUND_B, memoryview(array("i", [0] * 64))[::2])
+            wanted = [7] * 34
+            count = call(ROUND_B, wanted)
+            targets = [
+                UserList([7] * 34),
+                deque([7] * 34),
+                array("q", [7] * 34),
+                (ctypes.c_int64 * 34)(*[7] * 34),
+                (ctypes.c_int32.__ctype_be__ * 34)(*[7] * 34),
+                memoryview(array("i", [7] * 68))[::2],
+                memoryview(bytearray(b"\0" + array("i", [7] * 34).tobytes()))[1:].cast("i"),
+                *([numpy.array([7] * 34), numpy.array([7] * 68)[::2]] if numpy is not None else []),
+            ]
+            for target in targets:
+                self.assertEqual((call(ROUND_B, target), list(target)), (count, wanted), target)
+            short = UserList([7] * 31)
+            self.assertEqual((answer_of(call, ROUND_B, short), list(short)), (("refused", 7, 32), [7] * 31))
+            for narrow in (array("h", [7] * 34), array("I", [7] * 34), array("f", [7] * 34), bytearray(34)):
+                self.raises(TypeError, "buffer has format", call, ROUND_B, narrow)
+        file = feltloquat.write_round(ROUND_B, [2, 5])
+        boxes, plugs = UserList([7] * 17), UserList([7] * 3)
+        self.assertEqual(feltloquat.read_round_into(file, boxes, plugs), (4, 1))
+        self.assertEqual((boxes, plugs), (ROUND_B + [7], [2, 5, 7]))
+        for target in (UserList([7] * 85), array("i", [7] * 85), memoryview(bytearray([7] * 170))[::2]):
+            self.assertEqual(feltloquat.write_round_into(ROUND_B, [2, 5], target), 84)
+            self.assertEqual(list(target), [*file, 7])
 
     def test_shared_memory(self):
         own = array("i", ROUND_B + [7] * 32)
@@ -366,9 +403,9 @@ class Arguments(unittest.TestCase):
             lambda: feltloquat.word(boxes, 16001, 0),
             lambda: feltloquat.word(boxes, 0.0, 0),
             lambda: feltloquat.outer_polygon_into(boxes, numbers),
-            lambda: feltloquat.outer_polygon_into(boxes, array("q")),
+            lambda: feltloquat.outer_polygon_into(boxes, file),
             lambda: feltloquat.write_round_into(boxes, numbers, file),
-            lambda: feltloquat.word(file, 0, 0),
+            lambda: feltloquat.outer_polygon_into(file, numbers),
             lambda: feltloquat.read_round_into(file, numbers, boxes),
         ]
         for call in calls:
@@ -405,11 +442,17 @@ class Arguments(unittest.TestCase):
             shutil.copy(feltloquat.__file__, binding)
             default, named = os.path.join(folder, "target", "library", "libfeltloquat.so"), os.path.join(folder, "named.so")
             for variable, place in ((None, default), ("", default), (named, named), ("libc.so.6", "libc.so.6")):
-                with self.assertRaises(ImportError) as caught:
+                with self.assertRaises(OSError) as caught:
                     self.imported(binding, variable)
                 for text in (place, "./library", "FELTLOQUAT_LIBRARY"):
                     self.assertIn(text, str(caught.exception))
             self.assertEqual(self.imported(binding, feltloquat._PLACE).word(ROUND_B, 5, 5), "inside")
+            beside = os.path.join(folder, "target", "staticlib", "libfeltloquat.so")
+            for place in (beside, default):
+                os.makedirs(os.path.dirname(place))
+                shutil.copy(feltloquat._PLACE, place)
+                found = self.imported(binding, None)
+                self.assertEqual((found._PLACE, found.word(ROUND_B, 5, 5)), (place, "inside"))
 
     def imported(self, path, variable):
         """The binding at a path, imported with the environment variable as said."""

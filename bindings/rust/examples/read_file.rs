@@ -20,7 +20,7 @@ fn print_words(path: &Path) -> Result<(), Box<dyn Error>> {
         let plug = Point { east: plug[0], north: plug[1] };
         match word(&round.boxes, plug.east, plug.north) {
             Ok(word) => println!("{} {plug} {word}", index + 1),
-            Err(refusal) => println!("{} {plug} refused: {}", index + 1, refusal.cause),
+            Err(refusal) => println!("{} {plug} refused: {}", index + 1, refusal.words()),
         }
     }
     Ok(())

@@ -1,7 +1,7 @@
 //! Round B: its polygons, and the verdicts on some plugs with their reasons in words. In this crate's folder:
 //!   cargo run --offline --release --example round_b
 
-use feltloquat::{corner_polygons, outer_polygon, verdict, BoxEdges, Corner, Point, Reasons, Refusal, Verdict};
+use feltloquat::{corner_polygons, edges_of, outer_polygon, verdict, BoxEdges, Corner, Point, Reasons, Refusal, Verdict};
 
 const BOXES: [BoxEdges; 4] = [
     BoxEdges { west: 0, south: 0, east: 2, north: 2 },
@@ -30,13 +30,14 @@ fn print_reasons(reasons: &Reasons) {
 }
 
 fn main() -> Result<(), Refusal> {
-    println!("outer polygon: {}", listed(&outer_polygon(&BOXES)?));
-    for (name, polygon) in Corner::ALL.iter().zip(corner_polygons(&BOXES)?) {
+    let boxes = edges_of(&BOXES);
+    println!("outer polygon: {}", listed(&outer_polygon(boxes)?));
+    for (name, polygon) in Corner::ALL.iter().zip(corner_polygons(boxes)?) {
         println!("{name} polygon: {}", listed(&polygon));
     }
     for (east, north) in PLUGS {
         let plug = Point { east, north };
-        match verdict(&BOXES, east, north) {
+        match verdict(boxes, east, north) {
             Ok(verdict) => {
                 println!("plug {plug}: {}", verdict.word());
                 if let Verdict::Undecided(reasons) = verdict {

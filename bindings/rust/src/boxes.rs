@@ -1,4 +1,4 @@
-//! Boxes, their corners, and the two kinds of lists in which boxes are lent.
+//! Boxes, their corners, and the flat list of the edges of boxes that are records.
 
 use std::fmt;
 use std::mem::{align_of, size_of};
@@ -100,48 +100,19 @@ impl From<[i32; 4]> for BoxEdges {
     }
 }
 
-/// What a list of boxes is made of: of records, [`BoxEdges`], one to a box; or of numbers, `i32`, four to a box in the order west,
-/// south, east, north. Every call that is lent boxes takes either list, as it stands and without a copy, and the answers are equal.
-/// With records cause 1 cannot arise.
-///
-/// No other type has this trait. An empty list written in place does not say what it is made of; the call does:
-///
-/// ```
-/// use feltloquat::{word, BoxEdges, Cause, Refusal};
-///
-/// assert_eq!(word::<BoxEdges>(&[], 0, 0), Err(Refusal { cause: Cause::NoBox, place: 0 }));
-/// ```
-pub trait BoxItem: sealed::Numbers {}
-
-impl BoxItem for i32 {}
-
-impl BoxItem for BoxEdges {}
-
-pub(crate) mod sealed {
-    /// Its name is not public, so no other crate gives it to a type.
-    pub trait Numbers: Sized {
-        /// The list as numbers, four to a box.
-        fn numbers(list: &[Self]) -> &[i32];
-    }
-}
-
-impl sealed::Numbers for i32 {
-    fn numbers(list: &[i32]) -> &[i32] {
-        list
-    }
-}
-
-impl sealed::Numbers for BoxEdges {
-    fn numbers(list: &[BoxEdges]) -> &[i32] {
-        edges_in(list)
-    }
-}
-
 // A record is four numbers without gaps.
 const _: () = assert!(size_of::<BoxEdges>() == 4 * size_of::<i32>() && align_of::<BoxEdges>() == align_of::<i32>());
 
-/// The memory of records, seen as the flat list of their edges.
-fn edges_in(records: &[BoxEdges]) -> &[i32] {
+/// Boxes as records, seen as the flat list of their edges that a call is lent, without a copy.
+///
+/// ```
+/// use feltloquat::{edges_of, outer_polygon, BoxEdges};
+///
+/// let boxes = [BoxEdges { west: 1, south: 2, east: 3, north: 4 }];
+/// assert_eq!(edges_of(&boxes), [1, 2, 3, 4]);
+/// assert_eq!(outer_polygon(edges_of(&boxes)), outer_polygon(&[1, 2, 3, 4]));
+/// ```
+pub fn edges_of(records: &[BoxEdges]) -> &[i32] {
     // SAFETY: `repr(C)` lays a record out as four i32 in the order of its fields, with no gap and an i32's alignment (asserted
     // above), so N records are 4 × N i32 that are all set. The list is lent for reading as long as the records are.
     unsafe { slice::from_raw_parts(records.as_ptr().cast::<i32>(), 4 * records.len()) }

@@ -4,36 +4,35 @@
 //! has 1 to 1,024 boxes; equal boxes are allowed and each counts. A plug is two numbers, east then north. Every number is from
 //! −16,000 to 16,000. Boxes and plugs are numbered from 1.
 //!
-//! Boxes are lent as records with named edges ([`BoxEdges`]), or as one flat list of numbers, four to a box; every call that is lent
-//! boxes takes either ([`BoxItem`]). A call that is refused says its cause and a place ([`Refusal`]).
+//! Boxes are lent as one flat list of numbers, four to a box; [`edges_of`] sees records with named edges ([`BoxEdges`]) as such a list.
+//! A call that is refused says the number of its cause ([`Cause`]) and a place ([`Refusal`]).
 //!
 //! The library's calls are proved: each answer is the one that the definitions give, and each refusal comes under its condition and
 //! no other. This crate is a thin, safe layer over the static library (`rt staticlib c_api`), tested and not proved. No call has a
 //! precondition, keeps anything, or touches what it is not lent.
 //!
 //! ```
-//! use feltloquat::{outer_polygon, verdict, word, BoxEdges, Cause, Point, Refusal, Verdict};
+//! use feltloquat::{edges_of, outer_polygon, verdict, word, BoxEdges, Cause, Point, Refusal, Verdict};
 //!
 //! // Round B: four boxes at the corners of a square.
-//! let boxes = [
+//! let records = [
 //!     BoxEdges { west: 0, south: 0, east: 2, north: 2 },
 //!     BoxEdges { west: 8, south: 0, east: 10, north: 2 },
 //!     BoxEdges { west: 8, south: 8, east: 10, north: 10 },
 //!     BoxEdges { west: 0, south: 8, east: 2, north: 10 },
 //! ];
-//! assert_eq!(verdict(&boxes, 5, 5), Ok(Verdict::Inside));
-//! assert_eq!(verdict(&boxes, 11, 5), Ok(Verdict::Outside));
+//! let boxes = edges_of(&records);
+//! assert_eq!(boxes, [0, 0, 2, 2, 8, 0, 10, 2, 8, 8, 10, 10, 0, 8, 2, 10]);
 //!
-//! // The same boxes as a flat list have equal answers.
-//! let flat = [0, 0, 2, 2, 8, 0, 10, 2, 8, 8, 10, 10, 0, 8, 2, 10];
-//! assert_eq!(verdict(&flat, 2, 5), verdict(&boxes, 2, 5));
+//! assert_eq!(verdict(boxes, 5, 5), Ok(Verdict::Inside));
+//! assert_eq!(verdict(boxes, 11, 5), Ok(Verdict::Outside));
 //!
 //! // Undecided carries a reason for each driver.
-//! let Ok(Verdict::Undecided(reasons)) = verdict(&boxes, 2, 5) else {
+//! let Ok(Verdict::Undecided(reasons)) = verdict(boxes, 2, 5) else {
 //!     panic!("(2, 5) lies on two corner polygons");
 //! };
 //! // For the first: no picked corner is ahead of the plug in the direction.
-//! for stop in boxes {
+//! for stop in records {
 //!     let corner = stop.corner(reasons.direction.corner);
 //!     let east = reasons.direction.east * (corner.east - 2);
 //!     let north = reasons.direction.north * (corner.north - 5);
@@ -42,19 +41,20 @@
 //! // For the second: the weighted sum of (corner − plug) is zero.
 //! let mut sum = (0, 0);
 //! for entry in reasons.entries {
-//!     let corner = boxes[entry.box_number - 1].corner(entry.corner);
+//!     let corner = records[entry.box_number - 1].corner(entry.corner);
 //!     sum.0 += i64::from(entry.weight) * i64::from(corner.east - 2);
 //!     sum.1 += i64::from(entry.weight) * i64::from(corner.north - 5);
 //! }
 //! assert_eq!(sum, (0, 0));
 //!
 //! // The outer polygon, clockwise; where it starts is open.
-//! let outer = outer_polygon(&boxes).unwrap();
+//! let outer = outer_polygon(boxes).unwrap();
 //! assert_eq!(outer.len(), 4);
 //! assert!(outer.contains(&Point { east: 0, north: 10 }));
 //!
-//! // A refusal is a cause and a place: here the plug is beyond ±16,000.
-//! assert_eq!(word(&boxes, 16_001, 5), Err(Refusal { cause: Cause::PlugBeyond, place: 1 }));
+//! // A refusal is the number of a cause and a place: here the plug is beyond ±16,000.
+//! assert_eq!(word(boxes, 16_001, 5), Err(Refusal { number: 6, place: 1 }));
+//! assert_eq!(word(boxes, 16_001, 5).unwrap_err().cause(), Cause::PlugBeyond);
 //! ```
 
 #![deny(missing_docs)]
@@ -65,7 +65,7 @@ mod refusals;
 
 use std::fmt;
 
-pub use boxes::{BoxEdges, BoxItem, Corner, Point};
+pub use boxes::{edges_of, BoxEdges, Corner, Point};
 pub use refusals::{Cause, Refusal};
 
 use refusals::accepted;
@@ -212,16 +212,15 @@ fn points_of(numbers: &[i32]) -> Vec<Point> {
 /// Refused by 1 to 5.
 ///
 /// ```
-/// use feltloquat::{outer_polygon, BoxEdges, Point};
+/// use feltloquat::{outer_polygon, Point};
 ///
-/// let line = [BoxEdges { west: 1, south: 5, east: 7, north: 5 }];
+/// let line = [1, 5, 7, 5];
 /// let mut ends = outer_polygon(&line)?;
 /// ends.sort();
 /// assert_eq!(ends, [Point { east: 1, north: 5 }, Point { east: 7, north: 5 }]);
 /// # Ok::<(), feltloquat::Refusal>(())
 /// ```
-pub fn outer_polygon<Item: BoxItem>(boxes: &[Item]) -> Result<Vec<Point>, Refusal> {
-    let boxes = Item::numbers(boxes);
+pub fn outer_polygon(boxes: &[i32]) -> Result<Vec<Point>, Refusal> {
     let mut buffer = vec![0; 2 * boxes.len()];
     let count = outer_polygon_into(boxes, &mut buffer)?;
     Ok(points_of(&buffer[..2 * count]))
@@ -231,8 +230,7 @@ pub fn outer_polygon<Item: BoxItem>(boxes: &[Item]) -> Result<Vec<Point>, Refusa
 /// are needed. Numbers after the last vertex up to 8 × N become 0; those beyond are unchanged.
 ///
 /// Refused by 1 to 5, then 7.
-pub fn outer_polygon_into<Item: BoxItem>(boxes: &[Item], buffer: &mut [i32]) -> Result<usize, Refusal> {
-    let boxes = Item::numbers(boxes);
+pub fn outer_polygon_into(boxes: &[i32], buffer: &mut [i32]) -> Result<usize, Refusal> {
     // SAFETY: both slices are lent for the call alone, with their lengths; the call reads the first and writes within the second.
     let answer = unsafe { calls::feltloquat_outer_polygon(boxes.as_ptr(), boxes.len(), buffer.as_mut_ptr(), buffer.len()) };
     accepted(answer.refused, answer.place)?;
@@ -254,8 +252,7 @@ pub fn outer_polygon_into<Item: BoxItem>(boxes: &[Item], buffer: &mut [i32]) -> 
 /// assert_eq!(northwest, [Point { east: 1, north: 4 }]);
 /// # Ok::<(), feltloquat::Refusal>(())
 /// ```
-pub fn corner_polygons<Item: BoxItem>(boxes: &[Item]) -> Result<[Vec<Point>; 4], Refusal> {
-    let boxes = Item::numbers(boxes);
+pub fn corner_polygons(boxes: &[i32]) -> Result<[Vec<Point>; 4], Refusal> {
     let mut buffer = vec![0; 2 * boxes.len()];
     let counts = corner_polygons_into(boxes, &mut buffer)?;
     let mut rest = &buffer[..];
@@ -270,8 +267,7 @@ pub fn corner_polygons<Item: BoxItem>(boxes: &[Item]) -> Result<[Vec<Point>; 4],
 /// N boxes, 8 × N numbers are needed. Numbers after the last vertex up to 8 × N become 0; those beyond are unchanged.
 ///
 /// Refused by 1 to 5, then 7.
-pub fn corner_polygons_into<Item: BoxItem>(boxes: &[Item], buffer: &mut [i32]) -> Result<VertexCounts, Refusal> {
-    let boxes = Item::numbers(boxes);
+pub fn corner_polygons_into(boxes: &[i32], buffer: &mut [i32]) -> Result<VertexCounts, Refusal> {
     // SAFETY: as in `outer_polygon_into`.
     let answer = unsafe { calls::feltloquat_corner_polygons(boxes.as_ptr(), boxes.len(), buffer.as_mut_ptr(), buffer.len()) };
     accepted(answer.refused, answer.place)?;
@@ -295,8 +291,7 @@ pub fn corner_polygons_into<Item: BoxItem>(boxes: &[Item], buffer: &mut [i32]) -
 /// assert_eq!(verdict(&[0, 0, 4, 4], 2, 2)?.word(), Word::Undecided);
 /// # Ok::<(), feltloquat::Refusal>(())
 /// ```
-pub fn verdict<Item: BoxItem>(boxes: &[Item], east: i32, north: i32) -> Result<Verdict, Refusal> {
-    let boxes = Item::numbers(boxes);
+pub fn verdict(boxes: &[i32], east: i32, north: i32) -> Result<Verdict, Refusal> {
     // SAFETY: the slice is lent for the call alone, with its length; the call reads it.
     verdict_of(unsafe { calls::feltloquat_verdict(boxes.as_ptr(), boxes.len(), east, north) })
 }
@@ -311,8 +306,7 @@ pub fn verdict<Item: BoxItem>(boxes: &[Item], east: i32, north: i32) -> Result<V
 /// assert_eq!(word(&[0, 0, 4, 4], 5, 2)?, Word::Outside);
 /// # Ok::<(), feltloquat::Refusal>(())
 /// ```
-pub fn word<Item: BoxItem>(boxes: &[Item], east: i32, north: i32) -> Result<Word, Refusal> {
-    let boxes = Item::numbers(boxes);
+pub fn word(boxes: &[i32], east: i32, north: i32) -> Result<Word, Refusal> {
     // SAFETY: as in `verdict`.
     let answer = unsafe { calls::feltloquat_word(boxes.as_ptr(), boxes.len(), east, north) };
     accepted(answer.refused, answer.place)?;
@@ -364,8 +358,7 @@ pub fn read_round_into(file: &[u8], boxes: &mut [i32], plugs: &mut [i32]) -> Res
 /// assert_eq!(print_round(&file), "boxes 1 plugs 2\n1 undecided\n2 outside\n");
 /// # Ok::<(), feltloquat::Refusal>(())
 /// ```
-pub fn write_round<Item: BoxItem>(boxes: &[Item], plugs: &[i32]) -> Result<Vec<u8>, Refusal> {
-    let boxes = Item::numbers(boxes);
+pub fn write_round(boxes: &[i32], plugs: &[i32]) -> Result<Vec<u8>, Refusal> {
     let mut file = vec![0; boxes.len() / 4 * 18 + plugs.len() / 2 * 10 + 2];
     let count = write_round_into(boxes, plugs, &mut file)?;
     file.truncate(count);
@@ -375,8 +368,7 @@ pub fn write_round<Item: BoxItem>(boxes: &[Item], plugs: &[i32]) -> Result<Vec<u
 /// [`write_round`] into a lent buffer; returns the byte count. Bytes after that count are unchanged.
 ///
 /// Refused by 1 to 5 for the boxes, then 1 and 6 for the plugs, then 7.
-pub fn write_round_into<Item: BoxItem>(boxes: &[Item], plugs: &[i32], file: &mut [u8]) -> Result<usize, Refusal> {
-    let boxes = Item::numbers(boxes);
+pub fn write_round_into(boxes: &[i32], plugs: &[i32], file: &mut [u8]) -> Result<usize, Refusal> {
     // SAFETY: as in `read_round_into`.
     let answer = unsafe {
         calls::feltloquat_write_round(boxes.as_ptr(), boxes.len(), plugs.as_ptr(), plugs.len(), file.as_mut_ptr(), file.len())

@@ -110,53 +110,55 @@ impl fmt::Display for Cause {
     }
 }
 
-/// What a refused call returns: its cause, and the place that the table of [`Cause`] names. A refused call leaves every lent buffer
-/// as it was.
+/// The number of a cause in the table of [`Cause`], and the place that it returns. A refused call leaves every lent buffer as it was.
 ///
 /// ```
 /// use feltloquat::{word, Cause, Refusal};
 ///
 /// // An edge of box 2 is beyond ±16,000.
 /// let refusal = word(&[0, 0, 1, 1, 0, 0, 16_001, 1], 0, 0).unwrap_err();
-/// assert_eq!(refusal, Refusal { cause: Cause::EdgeBeyond, place: 2 });
+/// assert_eq!(refusal, Refusal { number: 4, place: 2 });
+/// assert_eq!(refusal.cause(), Cause::EdgeBeyond);
 /// assert_eq!(refusal.to_string(), "refused 4 2: box edge beyond ±16,000");
 /// ```
 #[derive(Clone, Copy, Debug, PartialEq, Eq)]
 pub struct Refusal {
-    /// The cause.
-    pub cause: Cause,
+    /// The cause's number.
+    pub number: u32,
     /// What the table's column "Place" says for the cause.
     pub place: u64,
 }
 
 impl Refusal {
-    /// The cause's number.
-    pub fn number(self) -> u32 {
-        self.cause.number()
+    /// The cause. Panics if none that this crate knows has the number.
+    pub fn cause(self) -> Cause {
+        Cause::from_number(self.number).expect("the number of a cause that this crate knows")
     }
 
-    /// The cause's words.
+    /// The cause's number.
+    pub fn number(self) -> u32 {
+        self.number
+    }
+
+    /// The cause in words.
     pub fn words(self) -> &'static str {
-        self.cause.words()
+        Cause::from_number(self.number).map_or("unknown cause", Cause::words)
     }
 }
 
 impl fmt::Display for Refusal {
     fn fmt(&self, f: &mut fmt::Formatter<'_>) -> fmt::Result {
-        write!(f, "refused {} {}: {}", self.number(), self.place, self.cause)
+        write!(f, "refused {} {}: {}", self.number, self.place, self.words())
     }
 }
 
 impl Error for Refusal {}
 
-/// What the first two numbers of an answer say: 0 is accepted, any other the number of a cause. Panics if no cause has it: then
-/// target/staticlib/libc_api.a is not of the same version as this crate.
+/// What the first two numbers of an answer say: 0 is accepted, any other the number of a cause.
 pub(crate) fn accepted(number: u32, place: u64) -> Result<(), Refusal> {
     if number == 0 {
-        return Ok(());
-    }
-    match Cause::from_number(number) {
-        Some(cause) => Err(Refusal { cause, place }),
-        None => panic!("the library refused by {number}, a cause that this crate does not know"),
+        Ok(())
+    } else {
+        Err(Refusal { number, place })
     }
 }

@@ -3,7 +3,8 @@
 use std::error::Error;
 
 use feltloquat::{
-    outer_polygon, outer_polygon_into, print_round, read_round, verdict, word, write_round, BoxEdges, Cause, Refusal, Round,
+    edges_of, outer_polygon, outer_polygon_into, print_round, read_round, verdict, word, write_round, BoxEdges, Cause, Refusal,
+    Round,
 };
 
 /// The table of docs/SCOPE.md.
@@ -29,8 +30,8 @@ fn numbers_and_words() {
         assert_eq!(Cause::from_number(number), Some(cause));
         assert_eq!(cause.to_string(), words);
         assert_eq!(cause.words(), words);
-        let refusal = Refusal { cause, place: 70 };
-        assert_eq!((refusal.number(), refusal.words()), (number, words));
+        let refusal = Refusal { number, place: 70 };
+        assert_eq!((refusal.number(), refusal.cause(), refusal.words()), (number, cause, words));
         assert_eq!(refusal.to_string(), format!("refused {number} 70: {words}"));
     }
     assert_eq!(Cause::ALL, TABLE.map(|(_, cause, _)| cause));
@@ -40,6 +41,7 @@ fn numbers_and_words() {
 fn numbers_of_no_cause() {
     for number in [0, 13, 256 + 1, u32::MAX] {
         assert_eq!(Cause::from_number(number), None);
+        assert_eq!(Refusal { number, place: 70 }.to_string(), format!("refused {number} 70: unknown cause"));
     }
 }
 
@@ -73,7 +75,7 @@ fn the_headers_words() {
 }
 
 fn refused<T>(cause: Cause, place: u64) -> Result<T, Refusal> {
-    Err(Refusal { cause, place })
+    Err(Refusal { number: cause.number(), place })
 }
 
 /// A box, a plug and the end; each record starts at 0, 18 and 28.
@@ -83,7 +85,7 @@ const FILE: [u8; 30] = [0x5B, 1, 0, 0, 0, 0, 0, 0, 0, 0, 0, 0, 0, 4, 0, 0, 0, 4,
 fn a_call_refused_by_each() {
     assert_eq!(outer_polygon(&[0; 7]), refused(Cause::ListLength, 7));
     assert_eq!(write_round(&[0; 4], &[0; 3]), refused(Cause::ListLength, 3));
-    assert_eq!(outer_polygon::<i32>(&[]), refused(Cause::NoBox, 0));
+    assert_eq!(outer_polygon(&[]), refused(Cause::NoBox, 0));
     assert_eq!(outer_polygon(&[0; 4 * 1_025]), refused(Cause::TooManyBoxes, 1_025));
     assert_eq!(outer_polygon(&[0, 0, 1, 1, 0, -16_001, 1, 1]), refused(Cause::EdgeBeyond, 2));
     assert_eq!(outer_polygon(&[0, 0, 1, 1, 0, 2, 1, 1]), refused(Cause::EdgesReversed, 2));
@@ -103,12 +105,12 @@ fn a_call_refused_by_each() {
 #[test]
 fn the_same_for_records() {
     let fits = BoxEdges { west: 0, south: 0, east: 1, north: 1 };
-    assert_eq!(word::<BoxEdges>(&[], 0, 0), refused(Cause::NoBox, 0));
-    assert_eq!(word(&[fits; 1_025], 0, 0), refused(Cause::TooManyBoxes, 1_025));
-    assert_eq!(word(&[fits, BoxEdges { north: 16_001, ..fits }], 0, 0), refused(Cause::EdgeBeyond, 2));
-    assert_eq!(word(&[fits, fits, BoxEdges { west: 2, ..fits }], 0, 0), refused(Cause::EdgesReversed, 3));
-    assert_eq!(word(&[fits], -16_001, 0), refused(Cause::PlugBeyond, 1));
-    assert_eq!(outer_polygon_into(&[fits; 2], &mut [5; 15]), refused(Cause::BufferShort, 16));
+    assert_eq!(word(edges_of(&[]), 0, 0), refused(Cause::NoBox, 0));
+    assert_eq!(word(edges_of(&[fits; 1_025]), 0, 0), refused(Cause::TooManyBoxes, 1_025));
+    assert_eq!(word(edges_of(&[fits, BoxEdges { north: 16_001, ..fits }]), 0, 0), refused(Cause::EdgeBeyond, 2));
+    assert_eq!(word(edges_of(&[fits, fits, BoxEdges { west: 2, ..fits }]), 0, 0), refused(Cause::EdgesReversed, 3));
+    assert_eq!(word(edges_of(&[fits]), -16_001, 0), refused(Cause::PlugBeyond, 1));
+    assert_eq!(outer_polygon_into(edges_of(&[fits; 2]), &mut [5; 15]), refused(Cause::BufferShort, 16));
 }
 
 #[test]
@@ -119,5 +121,5 @@ fn a_refusal_is_an_error() {
     }
     let error = fails().expect_err("refused");
     assert_eq!(error.to_string(), "refused 6 1: plug beyond ±16,000");
-    assert_eq!(error.downcast_ref(), Some(&Refusal { cause: Cause::PlugBeyond, place: 1 }));
+    assert_eq!(error.downcast_ref(), Some(&Refusal { number: 6, place: 1 }));
 }

@@ -1,14 +1,14 @@
 //! The measured rounds of docs/SCOPE.md.
 
 use feltloquat::{
-    corner_polygons, outer_polygon, outer_polygon_into, print_round, read_round, verdict, word, write_round, Cause, Corner,
-    Point, Refusal, Round, Verdict, Word,
+    corner_polygons, outer_polygon, outer_polygon_into, print_round, read_round, verdict, word, write_round, Corner, Point,
+    Refusal, Round, Verdict, Word,
 };
 
 const ROUND_B: [i32; 16] = [0, 0, 2, 2, 8, 0, 10, 2, 8, 8, 10, 10, 0, 8, 2, 10];
 
 fn refused<T>(number: u32, place: u64) -> Result<T, Refusal> {
-    Err(Refusal { cause: Cause::from_number(number).expect("a cause"), place })
+    Err(Refusal { number, place })
 }
 
 /// The vertices as pairs, from a start.
@@ -65,7 +65,7 @@ fn limits() {
     assert_eq!(word(&[0, 0, 1, 1].repeat(1_025), 20, 20), refused(3, 1_025));
     assert_eq!(outer_polygon_into(&[0, 0, 1, 1], &mut [5; 8]), Ok(4));
     assert_eq!(outer_polygon_into(&[0, 0, 1, 1], &mut [5; 7]), refused(7, 8));
-    assert_eq!(word::<i32>(&[], 0, 0), refused(2, 0));
+    assert_eq!(word(&[], 0, 0), refused(2, 0));
     assert_eq!(word(&[0, 0, 0], 0, 0), refused(1, 3));
     assert_eq!(word(&[0, 0, 1, 1], 0, -16_001), refused(6, 1));
     assert_eq!(word(&[0, 0, 1, 1, 2, 0, 1, 1], 0, 0), refused(5, 2));
@@ -93,5 +93,5 @@ fn corners_of_a_box() {
 
 #[test]
 fn a_refusal_in_words() {
-    assert_eq!(Refusal { cause: Cause::NoBox, place: 0 }.to_string(), "refused 2 0: no box");
+    assert_eq!(Refusal { number: 2, place: 0 }.to_string(), "refused 2 0: no box");
 }

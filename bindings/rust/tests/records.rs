@@ -1,8 +1,8 @@
 //! Boxes lent as records: answers worked out by hand, for boxes whose four edges all differ.
 
 use feltloquat::{
-    corner_polygons, corner_polygons_into, outer_polygon, outer_polygon_into, read_round, verdict, verdict_on_records, word,
-    write_round, write_round_into, BoxEdges, Corner, Point, Verdict, VertexCounts, Word,
+    corner_polygons, corner_polygons_into, edges_of, outer_polygon, outer_polygon_into, read_round, verdict, verdict_on_records,
+    word, write_round, write_round_into, BoxEdges, Corner, Point, Verdict, VertexCounts, Word,
 };
 
 const BOX: BoxEdges = BoxEdges { west: 1, south: 20, east: 300, north: 4_000 };
@@ -31,10 +31,10 @@ fn from_least(mut vertices: Vec<Point>) -> Vec<Point> {
 
 #[test]
 fn the_outer_polygon() {
-    assert_eq!(from_least(outer_polygon(&[BOX]).unwrap()), points([(1, 20), (1, 4_000), (300, 4_000), (300, 20)]));
+    assert_eq!(from_least(outer_polygon(edges_of(&[BOX])).unwrap()), points([(1, 20), (1, 4_000), (300, 4_000), (300, 20)]));
     let mut buffer = [7; 10];
-    assert_eq!(outer_polygon_into(&[BOX], &mut buffer), Ok(4));
-    assert_eq!(outer_polygon(&[BOX]).unwrap(), buffer[..8].chunks(2).map(point).collect::<Vec<_>>());
+    assert_eq!(outer_polygon_into(edges_of(&[BOX]), &mut buffer), Ok(4));
+    assert_eq!(outer_polygon(edges_of(&[BOX])).unwrap(), buffer[..8].chunks(2).map(point).collect::<Vec<_>>());
     assert_eq!(buffer[8..], [7, 7]);
 }
 
@@ -44,15 +44,15 @@ fn point(pair: &[i32]) -> Point {
 
 #[test]
 fn the_corner_polygons() {
-    let polygons = corner_polygons(&BOXES).unwrap().map(from_least);
+    let polygons = corner_polygons(edges_of(&BOXES)).unwrap().map(from_least);
     assert_eq!(polygons[0], points([(-9_000, -8_000), (500, 9_000), (8_000, -5_000)]));
     assert_eq!(polygons[1], points([(-7_000, -8_000), (1_500, 9_000), (8_100, -5_000)]));
     assert_eq!(polygons[2], points([(-7_000, -6_000), (1_500, 9_500), (8_100, -4_000)]));
     assert_eq!(polygons[3], points([(-9_000, -6_000), (500, 9_500), (8_000, -4_000)]));
     let mut buffer = [7; 26];
     let counts = VertexCounts { southwest: 3, southeast: 3, northeast: 3, northwest: 3 };
-    assert_eq!(corner_polygons_into(&BOXES, &mut buffer), Ok(counts));
-    assert_eq!(corner_polygons(&BOXES).unwrap().concat(), buffer[..24].chunks(2).map(point).collect::<Vec<_>>());
+    assert_eq!(corner_polygons_into(edges_of(&BOXES), &mut buffer), Ok(counts));
+    assert_eq!(corner_polygons(edges_of(&BOXES)).unwrap().concat(), buffer[..24].chunks(2).map(point).collect::<Vec<_>>());
     assert_eq!(buffer[24..], [7, 7]);
 }
 
@@ -67,18 +67,18 @@ fn the_word_and_the_verdict() {
         (30, 19, Word::Outside),
         (30, 4_001, Word::Outside),
     ] {
-        assert_eq!(word(&[BOX], east, north), Ok(wanted));
-        assert_eq!(verdict(&[BOX], east, north).map(Verdict::word), Ok(wanted));
+        assert_eq!(word(edges_of(&[BOX]), east, north), Ok(wanted));
+        assert_eq!(verdict(edges_of(&[BOX]), east, north).map(Verdict::word), Ok(wanted));
         assert_eq!(verdict_on_records(&[BOX], east, north).map(Verdict::word), Ok(wanted));
     }
-    assert_eq!(verdict(&BOXES, 0, 0), Ok(Verdict::Inside));
+    assert_eq!(verdict(edges_of(&BOXES), 0, 0), Ok(Verdict::Inside));
     assert_eq!(verdict_on_records(&BOXES, 0, 0), Ok(Verdict::Inside));
 }
 
 /// The reasons name the box and the corner of the records.
 #[test]
 fn the_reasons() {
-    let Ok(Verdict::Undecided(reasons)) = verdict(&BOXES, 1_500, 9_500) else {
+    let Ok(Verdict::Undecided(reasons)) = verdict(edges_of(&BOXES), 1_500, 9_500) else {
         panic!("a corner of box 2 is undecided");
     };
     let direction = reasons.direction;
@@ -101,26 +101,26 @@ fn the_reasons() {
 /// The same memory, read as records by name and as numbers in order.
 #[test]
 fn records_and_flat_lists_are_equal() {
-    assert_eq!(outer_polygon(&BOXES), outer_polygon(&FLAT));
-    assert_eq!(corner_polygons(&BOXES), corner_polygons(&FLAT));
+    assert_eq!(outer_polygon(edges_of(&BOXES)), outer_polygon(&FLAT));
+    assert_eq!(corner_polygons(edges_of(&BOXES)), corner_polygons(&FLAT));
     for (east, north) in [(0, 0), (1_500, 9_500), (-9_000, -7_000), (15_000, 15_000), (16_001, 0)] {
-        assert_eq!(verdict(&BOXES, east, north), verdict(&FLAT, east, north));
+        assert_eq!(verdict(edges_of(&BOXES), east, north), verdict(&FLAT, east, north));
         assert_eq!(verdict_on_records(&BOXES, east, north), verdict(&FLAT, east, north));
-        assert_eq!(word(&BOXES, east, north), word(&FLAT, east, north));
+        assert_eq!(word(edges_of(&BOXES), east, north), word(&FLAT, east, north));
     }
 }
 
 #[test]
 fn a_file_of_records() {
-    let file = write_round(&BOXES, &[5, -6]).unwrap();
+    let file = write_round(edges_of(&BOXES), &[5, -6]).unwrap();
     let round = read_round(&file).unwrap();
     assert_eq!((&round.boxes[..], &round.plugs[..]), (&FLAT[..], &[5, -6][..]));
     let mut buffer = vec![7; file.len() + 1];
-    assert_eq!(write_round_into(&BOXES, &[5, -6], &mut buffer), Ok(file.len()));
+    assert_eq!(write_round_into(edges_of(&BOXES), &[5, -6], &mut buffer), Ok(file.len()));
     assert_eq!(buffer, [&file[..], &[7]].concat());
 }
 
-/// Arrays, slices and vectors are taken as they are.
+/// Arrays, slices and vectors are taken as they are, and records by their edges.
 #[test]
 fn lists_of_all_kinds() {
     let (flat, boxes): (Vec<i32>, Vec<BoxEdges>) = (FLAT.to_vec(), BOXES.to_vec());
@@ -128,9 +128,9 @@ fn lists_of_all_kinds() {
         word(&FLAT, 0, 0),
         word(&FLAT[..], 0, 0),
         word(&flat, 0, 0),
-        word(&BOXES, 0, 0),
-        word(&BOXES[..], 0, 0),
-        word(&boxes, 0, 0),
+        word(edges_of(&BOXES), 0, 0),
+        word(edges_of(&BOXES[..]), 0, 0),
+        word(edges_of(&boxes), 0, 0),
     ];
     assert_eq!(words, [Ok(Word::Inside); 6]);
 }

@@ -13,7 +13,7 @@ use std::time::Instant;
 
 use cases::Generator;
 use definition::{Cause, Edges, Pair, Word};
-use feltloquat::{BoxEdges, BoxItem, Point, Refusal, Verdict};
+use feltloquat::{edges_of, BoxEdges, Point, Refusal, Verdict};
 
 const SEED: u64 = 0x5B01_5B02_5C00_5B00;
 
@@ -62,11 +62,7 @@ fn fail(call: &str, input: &dyn Debug, wanted: &dyn Debug, given: &dyn Debug) ->
 }
 
 fn cause_in<T>(answer: &Result<T, Refusal>) -> Option<Cause> {
-    answer.as_ref().err().map(numbers_of)
-}
-
-fn numbers_of(refusal: &Refusal) -> Cause {
-    (refusal.number(), refusal.place)
+    answer.as_ref().err().map(|refusal| (refusal.number, refusal.place))
 }
 
 /// A buffer of a length with another number at every place.
@@ -87,55 +83,51 @@ fn records_of(boxes: &[i32]) -> Option<Vec<BoxEdges>> {
 
 // ---- one case of each call
 
-/// How many vertices each polygon has.
-type Counted = Result<Vec<usize>, Refusal>;
-
-/// A polygon call into a buffer, for both kinds of lists.
-struct PolygonCall {
-    name: &'static str,
-    of_numbers: fn(&[i32], &mut [i32]) -> Counted,
-    name_of_records: &'static str,
-    of_records: fn(&[BoxEdges], &mut [i32]) -> Counted,
+/// A call on boxes that were records gives the same answer, and leaves the same in what it is lent.
+fn compare_records<Answer: Debug + PartialEq>(
+    tally: &mut Tally,
+    call: &'static str,
+    boxes: &[i32],
+    cause: Option<Cause>,
+    given: &Answer,
+    answer: impl Fn(&[i32]) -> Answer,
+) {
+    if let Some(records) = records_of(boxes) {
+        let of_records = answer(edges_of(&records[..boxes.len() / 4]));
+        if of_records != *given {
+            fail(call, &boxes, given, &of_records);
+        }
+        tally.compared(call, cause);
+    }
 }
 
-const OUTER: PolygonCall =
-    PolygonCall { name: "outer_polygon", of_numbers: outer, name_of_records: "outer_polygon of records", of_records: outer };
-
-const CORNERS: PolygonCall = PolygonCall {
-    name: "corner_polygons",
-    of_numbers: corners,
-    name_of_records: "corner_polygons of records",
-    of_records: corners,
-};
-
-/// Compares a polygon call. `right` says, of accepted boxes, which lists of vertices are right.
+/// Compares a polygon call. `polygons` says, of accepted boxes, which lists of vertices are right.
 fn compare_polygons(
     tally: &mut Tally,
-    polygon_call: &PolygonCall,
+    call: &'static str,
     boxes: &[i32],
     length: usize,
+    answer: impl Fn(&[i32], &mut [i32]) -> Result<Vec<usize>, Refusal>,
     right: impl Fn(usize, &[Pair]) -> bool,
 ) {
-    let call = polygon_call.name;
     let wanted = definition::cause_of_polygons(boxes, length);
     let before = lent(length);
     let mut after = before.clone();
-    let given = (polygon_call.of_numbers)(boxes, &mut after);
+    let given = answer(boxes, &mut after);
     let input = (boxes, length);
     if cause_in(&given) != wanted {
         fail(call, &input, &wanted, &given);
     }
     tally.compared(call, wanted);
 
-    if let Some(records) = records_of(boxes) {
-        let mut of_records = before.clone();
-        let given_of_records = (polygon_call.of_records)(&records[..boxes.len() / 4], &mut of_records);
-        if given_of_records != given || of_records != after {
-            fail(polygon_call.name_of_records, &input, &(&given, &after), &(given_of_records, of_records));
-        }
-        tally.compared(polygon_call.name_of_records, wanted);
-    }
+    let of_records = if call == "outer_polygon" { "outer_polygon of records" } else { "corner_polygons of records" };
+    let both = (given, after);
+    compare_records(tally, of_records, boxes, wanted, &both, |boxes| {
+        let mut buffer = before.clone();
+        (answer(boxes, &mut buffer), buffer)
+    });
 
+    let (given, after) = both;
     let Ok(counts) = given else {
         if after != before {
             fail(call, &input, &"the buffer as it was", &after);
@@ -160,11 +152,11 @@ fn compare_polygons(
     }
 }
 
-fn outer<Item: BoxItem>(boxes: &[Item], buffer: &mut [i32]) -> Counted {
+fn outer(boxes: &[i32], buffer: &mut [i32]) -> Result<Vec<usize>, Refusal> {
     feltloquat::outer_polygon_into(boxes, buffer).map(|count| vec![count])
 }
 
-fn corners<Item: BoxItem>(boxes: &[Item], buffer: &mut [i32]) -> Counted {
+fn corners(boxes: &[i32], buffer: &mut [i32]) -> Result<Vec<usize>, Refusal> {
     let counts = feltloquat::corner_polygons_into(boxes, buffer)?;
     Ok(vec![counts.southwest, counts.southeast, counts.northeast, counts.northwest])
 }
@@ -173,17 +165,16 @@ fn corners<Item: BoxItem>(boxes: &[Item], buffer: &mut [i32]) -> Counted {
 fn compare_polygons_by_definition(tally: &mut Tally, boxes: &[i32], length: usize) {
     let edges = definition::boxes_of(boxes);
     let points = definition::all_corners(&edges);
-    compare_polygons(tally, &OUTER, boxes, length, |_, vertices| {
+    compare_polygons(tally, "outer_polygon", boxes, length, outer, |_, vertices| {
         definition::is_polygon(&points, &definition::extreme_points(&points), vertices)
     });
-    compare_polygons(tally, &CORNERS, boxes, length, |name, vertices| {
+    compare_polygons(tally, "corner_polygons", boxes, length, corners, |name, vertices| {
         let points = definition::corners_named(&edges, name);
         definition::is_polygon(&points, &definition::extreme_points(&points), vertices)
     });
 }
 
-/// Compares the three verdict calls, for both kinds of lists where they take both. `word` is the word of accepted boxes and an
-/// accepted plug.
+/// Compares the three verdict calls. `word` is the word of accepted boxes and an accepted plug.
 fn compare_verdicts(tally: &mut Tally, boxes: &[i32], plug: (i32, i32), word: impl Fn(&[Edges], Pair) -> Word) {
     let (east, north) = plug;
     let at = (i64::from(east), i64::from(north));
@@ -206,21 +197,17 @@ fn compare_verdicts(tally: &mut Tally, boxes: &[i32], plug: (i32, i32), word: im
     }
     tally.compared("word", wanted.err());
 
-    if let Some(records) = records_of(boxes) {
-        let records = &records[..boxes.len() / 4];
-        let of_records = feltloquat::verdict(records, east, north);
-        if of_records != given {
-            fail("verdict of records", &input, &given, &of_records);
-        }
-        tally.compared("verdict of records", wanted.err());
+    compare_records(tally, "verdict of records", boxes, wanted.err(), &given, |boxes| feltloquat::verdict(boxes, east, north));
+    compare_records(tally, "word of records", boxes, wanted.err(), &alone, |boxes| feltloquat::word(boxes, east, north));
 
-        let alone_of_records = feltloquat::word(records, east, north);
-        if alone_of_records != alone {
-            fail("word of records", &input, &alone, &alone_of_records);
-        }
-        tally.compared("word of records", wanted.err());
-
-        let on_records = feltloquat::verdict_on_records(records, east, north);
+    if boxes.len() % 4 == 0 {
+        // The last record is not lent, and would be refused.
+        let records: Vec<BoxEdges> = [boxes, &[0, 0, 0, 16_001]]
+            .concat()
+            .chunks_exact(4)
+            .map(|n| BoxEdges { west: n[0], south: n[1], east: n[2], north: n[3] })
+            .collect();
+        let on_records = feltloquat::verdict_on_records(&records[..boxes.len() / 4], east, north);
         if on_records != given {
             fail("verdict_on_records", &input, &given, &on_records);
         }
@@ -247,7 +234,7 @@ fn compare_verdict(
 ) {
     let same = match given {
         Ok(verdict) => wanted.is_ok_and(|word| name_of(word) == verdict.word().to_string()),
-        Err(refusal) => *wanted == Err(numbers_of(refusal)),
+        Err(refusal) => *wanted == Err((refusal.number, refusal.place)),
     };
     if !same {
         fail(call, input, wanted, given);
@@ -275,7 +262,7 @@ fn compare_read(tally: &mut Tally, file: &[u8], boxes_length: usize, plugs_lengt
     let counts = wanted.as_ref().map(|(boxes, plugs)| (boxes.len() / 4, plugs.len() / 2));
     let same = match &given {
         Ok(found) => counts == Ok((found.boxes, found.plugs)),
-        Err(refusal) => counts == Err(&numbers_of(refusal)),
+        Err(refusal) => counts == Err(&(refusal.number, refusal.place)),
     };
     if !same {
         fail("read_round", &input, &counts, &given);
@@ -311,7 +298,7 @@ fn compare_write(tally: &mut Tally, boxes: &[i32], plugs: &[i32], length: usize)
     let count = wanted.as_ref().map(Vec::len);
     let same = match &given {
         Ok(bytes) => count == Ok(*bytes),
-        Err(refusal) => count == Err(&numbers_of(refusal)),
+        Err(refusal) => count == Err(&(refusal.number, refusal.place)),
     };
     if !same {
         fail("write_round", &input, &count, &given);
@@ -322,14 +309,10 @@ fn compare_write(tally: &mut Tally, boxes: &[i32], plugs: &[i32], length: usize)
     let cause = wanted.err();
     tally.compared("write_round", cause);
 
-    if let Some(records) = records_of(boxes) {
-        let mut of_records = lent_bytes(length);
-        let given_of_records = feltloquat::write_round_into(&records[..boxes.len() / 4], plugs, &mut of_records);
-        if given_of_records != given || of_records != file {
-            fail("write_round of records", &input, &(given, file), &(given_of_records, of_records));
-        }
-        tally.compared("write_round of records", cause);
-    }
+    compare_records(tally, "write_round of records", boxes, cause, &(given, file), |boxes| {
+        let mut buffer = lent_bytes(length);
+        (feltloquat::write_round_into(boxes, plugs, &mut buffer), buffer)
+    });
 }
 
 fn compare_print(tally: &mut Tally, file: &[u8]) {
@@ -377,6 +360,7 @@ fn small_rounds(tally: &mut Tally, g: &mut Generator) {
         let length = some_length(g, 2 * boxes.len());
         compare_polygons_by_definition(tally, &boxes, length);
         compare_values(&boxes);
+        compare_values(edges_of(&records_of(&boxes).expect("whole boxes")[..boxes.len() / 4]));
         for _ in 0..2 {
             let plug = (g.between(-1, span + 1), g.between(-1, span + 1));
             compare_verdicts(tally, &boxes, plug, word_by_definition);
@@ -385,15 +369,9 @@ fn small_rounds(tally: &mut Tally, g: &mut Generator) {
     }
 }
 
-/// The calls that return values agree with those that fill lent buffers, for both kinds of lists.
+/// The calls that return values agree with those that fill lent buffers.
 fn compare_values(boxes: &[i32]) {
-    let records = records_of(boxes).expect("whole boxes");
-    compare_values_of(boxes, 2 * boxes.len());
-    compare_values_of(&records[..boxes.len() / 4], 2 * boxes.len());
-}
-
-fn compare_values_of<Item: BoxItem + Debug>(boxes: &[Item], needed: usize) {
-    let mut buffer = vec![0; needed];
+    let mut buffer = vec![0; 2 * boxes.len()];
     let listed = |numbers: &[i32]| numbers.chunks_exact(2).map(|v| (v[0], v[1])).collect::<Vec<_>>();
     let flat = |points: &[Point]| points.iter().map(|p| (p.east, p.north)).collect::<Vec<_>>();
     let count = feltloquat::outer_polygon_into(boxes, &mut buffer).expect("accepted");
@@ -476,8 +454,10 @@ fn large_rounds(tally: &mut Tally, g: &mut Generator) {
         let edges = definition::boxes_of(&boxes);
         let polygons = wrapping::polygons(&edges);
         let length = some_length(g, 2 * boxes.len());
-        compare_polygons(tally, &OUTER, &boxes, length, |_, vertices| wrapping::same_from_some_start(&polygons.outer, vertices));
-        compare_polygons(tally, &CORNERS, &boxes, length, |name, vertices| {
+        compare_polygons(tally, "outer_polygon", &boxes, length, outer, |_, vertices| {
+            wrapping::same_from_some_start(&polygons.outer, vertices)
+        });
+        compare_polygons(tally, "corner_polygons", &boxes, length, corners, |name, vertices| {
             wrapping::same_from_some_start(&polygons.corners[name], vertices)
         });
         for plug in 0..12 {
@@ -506,10 +486,10 @@ fn refused_calls(tally: &mut Tally, g: &mut Generator) {
 
         let length = some_length(g, 2 * boxes.len());
         let wrapped = wrapping_of(&boxes, length);
-        compare_polygons(tally, &OUTER, &boxes, length, |_, vertices| {
+        compare_polygons(tally, "outer_polygon", &boxes, length, outer, |_, vertices| {
             wrapped.as_ref().is_some_and(|p| wrapping::same_from_some_start(&p.outer, vertices))
         });
-        compare_polygons(tally, &CORNERS, &boxes, length, |name, vertices| {
+        compare_polygons(tally, "corner_polygons", &boxes, length, corners, |name, vertices| {
             wrapped.as_ref().is_some_and(|p| wrapping::same_from_some_start(&p.corners[name], vertices))
         });
 
@@ -643,10 +623,10 @@ fn limits(tally: &mut Tally) {
         }
         for length in [0, 8 * count - 1, 8 * count, 8 * count + 1] {
             let wrapped = wrapping_of(&boxes, length);
-            compare_polygons(tally, &OUTER, &boxes, length, |_, vertices| {
+            compare_polygons(tally, "outer_polygon", &boxes, length, outer, |_, vertices| {
                 wrapped.as_ref().is_some_and(|p| wrapping::same_from_some_start(&p.outer, vertices))
             });
-            compare_polygons(tally, &CORNERS, &boxes, length, |name, vertices| {
+            compare_polygons(tally, "corner_polygons", &boxes, length, corners, |name, vertices| {
                 wrapped.as_ref().is_some_and(|p| wrapping::same_from_some_start(&p.corners[name], vertices))
             });
         }
@@ -659,14 +639,11 @@ fn limits(tally: &mut Tally) {
     }
 }
 
-/// Many cases of one kind.
-type Section = fn(&mut Tally, &mut Generator);
-
 fn main() {
     println!("independent implementation, seed {SEED:#x}");
     let mut tally = Tally::default();
     let mut g = Generator::new(SEED);
-    let sections: [(&str, Section); 9] = [
+    let sections: [(&str, fn(&mut Tally, &mut Generator)); 9] = [
         ("limits", |tally, _| limits(tally)),
         ("small rounds", small_rounds),
         ("tiny rounds, pick by pick", tiny_rounds),
