@@ -27,13 +27,14 @@ use Rattle.rounds.specs.declared.Box.{Box}
 use Rattle.rounds.specs.declared.Corner.{Corner}
 use Rattle.rounds.specs.declared.Corner.TheVariants.{SouthWest, SouthEast, NorthEast, NorthWest}
 use Rattle.cones.specs.Cones.{corner_point, entry_of, Named, AllOnLine, AllInHalf, IsAround, ConeSays, Known}
-use Rattle.views.specs.Views.{IsPlug, MetSays, ViewSays, CornerViewSays, corners_by}
+use Rattle.passes.specs.Passes.{IsPlug, MetSays, corners_by}
+use Rattle.views.specs.Views.{ViewSays, CornerViewSays}
 use Rattle.views.specs.Looking.{looked_over}
 use Rattle.views.specs.declared.View.{View}
 use Rattle.views.proofs.Viewing.{looks_over}
-use Rattle.cone_passes.specs.declared.Met.{Met}
-use Rattle.cone_passes.specs.declared.Met.TheVariants.{Nowhere, At}
-use Rattle.cone_passes.specs.declared.CornerSet.TheVariants.{Four}
+use Rattle.passes.specs.declared.Met.{Met}
+use Rattle.passes.specs.declared.Met.TheVariants.{Nowhere, At}
+use Rattle.passes.specs.declared.CornerSet.TheVariants.{Four}
 use Rattle.balances.specs.Balances.{BetweenCorners, InTriangle, BalanceAt, BalanceSays, BalanceAmong, BalanceByCone, BalanceBy}
 use Rattle.balances.specs.Balancing.{between_two, among_three, balance_of_cone, balance_by_met, balance_of_view, ◌orBalance◌, balance_of}
 use Rattle.cones.specs.declared.CornerKey.{CornerKey}

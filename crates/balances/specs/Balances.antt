@@ -8,7 +8,8 @@ use Rattle.rounds.specs.Boxes.{all_corners}
 use Rattle.rounds.specs.Reasons.{EntriesHold}
 use Rattle.rounds.specs.declared.Box.{Box}
 use Rattle.cones.specs.Cones.{corner_point, Named, ConeSays}
-use Rattle.views.specs.Views.{NoneAt, ViewSays}
+use Rattle.passes.specs.Passes.{NoneAt}
+use Rattle.views.specs.Views.{ViewSays}
 use Rattle.cones.specs.declared.CornerKey.{CornerKey}
 use Rattle.cones.specs.declared.Cone.{Cone}
 use Rattle.views.specs.declared.View.{View}

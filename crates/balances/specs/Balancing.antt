@@ -8,9 +8,9 @@ use Rattle.cones.specs.Cones.{corner_point, entry_of}
 use Rattle.cones.specs.declared.CornerKey.{CornerKey}
 use Rattle.cones.specs.declared.Cone.{Cone}
 use Rattle.cones.specs.declared.Cone.TheVariants.{Nothing, Ray, Line, Wedge, Half, Around}
-use Rattle.cone_passes.specs.declared.Met.{Met}
-use Rattle.cone_passes.specs.declared.Met.TheVariants.{Nowhere, At}
-use Rattle.cone_passes.specs.declared.CornerSet.TheVariants.{Four}
+use Rattle.passes.specs.declared.Met.{Met}
+use Rattle.passes.specs.declared.Met.TheVariants.{Nowhere, At}
+use Rattle.passes.specs.declared.CornerSet.TheVariants.{Four}
 use Rattle.views.specs.Looking.{looked_over}
 use Rattle.views.specs.declared.View.{View}
 use Rattle.balances.specs.declared.Balance.{Balance}

@@ -11,8 +11,8 @@ ghost use Rattle.balances.specs.Balances.{BetweenCorners, InTriangle};
 ghost use Rattle.balances.specs.Balances.{BalanceSays, BalanceAmong, BalanceByCone, BalanceBy};
 ghost use Rattle.balances.specs.Balancing.{between_two, among_three, balance_of_cone, balance_of_view, balance_of};
 
-use cone_passes::{CornerSet, Met};
 use cones::{Cone, CornerKey};
+use passes::{CornerSet, Met};
 use rounds::{Corner, Entry};
 use views::View;
 

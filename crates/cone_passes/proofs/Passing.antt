@@ -30,9 +30,10 @@ use Rattle.cones.proofs.Turns.{left_is}
 use Rattle.cones.specs.declared.CornerKey.{CornerKey}
 use Rattle.cones.specs.declared.Cone.{Cone}
 use Rattle.cones.specs.declared.Cone.TheVariants.{Line, Wedge}
-use Rattle.cone_passes.specs.Passes.{Keeps, KeepsBox, Passes, nth_box, names_in, corners_in, keys_in}
-use Rattle.cone_passes.specs.declared.CornerSet.{CornerSet}
-use Rattle.cone_passes.specs.declared.CornerSet.TheVariants.{Four}
+use Rattle.passes.specs.Passes.{nth_box, names_in, corners_in}
+use Rattle.cone_passes.specs.Passes.{Keeps, KeepsBox, Passes, keys_in}
+use Rattle.passes.specs.declared.CornerSet.{CornerSet}
+use Rattle.passes.specs.declared.CornerSet.TheVariants.{Four}
 
 -- the corner at a place is that of the box there
 pub corner_of_nth : (c : Corner) (bs : List Box) (k : ℕ) → k < length bs → nth_corner c bs k ≡ corner_of c (nth_box bs k)

@@ -1,32 +1,15 @@
--- The corners of a box that are looked at, and boxes whose corners leave the cone as it is. Definitions only.
-use Rattle.std.specs.Prelude.{◌≡◌, false, List, [], ◌∷◌, map, ℕ, suc, ◌≤◌, ◌<◌, eqb, pos, length, get_or}
-use Rattle.plane.specs.Points.{Point}
+-- The corners of a box that are looked at, as keys, and boxes whose corners leave the cone as it is. Definitions only.
+use Rattle.std.specs.Prelude.{◌≡◌, false, List, map, ℕ, suc, ◌≤◌, ◌<◌, eqb, length}
 use Rattle.plane.specs.Members.{All}
-use Rattle.rounds.specs.Boxes.{box, corner_of}
 use Rattle.rounds.specs.declared.Box.{Box}
-use Rattle.rounds.specs.declared.Corner.{Corner}
-use Rattle.rounds.specs.declared.Corner.TheVariants.{SouthWest, SouthEast, NorthEast, NorthWest}
 use Rattle.cones.specs.Wider.{numbered, is_around, cone_with}
 use Rattle.cones.specs.declared.CornerKey.{CornerKey}
 use Rattle.cones.specs.declared.Cone.{Cone}
 use Rattle.cones.specs.declared.Cone.TheVariants.{Line}
-use Rattle.cone_passes.specs.declared.CornerSet.{CornerSet}
-use Rattle.cone_passes.specs.declared.CornerSet.TheVariants.{One, Four}
+use Rattle.passes.specs.Passes.{nth_box, names_in}
+use Rattle.passes.specs.declared.CornerSet.{CornerSet}
 
--- the box at place k, from 0
-abbrev pub nth_box : List Box → ℕ → Box
-nth_box bs k = get_or bs k (box (pos 0) (pos 0) (pos 0) (pos 0))
-
--- the names of the corners that are looked at
-abbrev pub names_in : CornerSet → List Corner
-names_in (One corner) = corner ∷ []
-names_in Four = SouthWest ∷ SouthEast ∷ NorthEast ∷ NorthWest ∷ []
-
--- those corners of a box
-abbrev pub corners_in : CornerSet → Box → List Point
-corners_in set b = map (λ c. corner_of c b) (names_in set)
-
--- the same, as keys, of the box with a number
+-- the corners of a box that are looked at, as keys, of the box with a number
 abbrev pub keys_in : CornerSet → ℕ → Box → List CornerKey
 keys_in set n b = map (numbered n b) (names_in set)
 

@@ -9,21 +9,8 @@ ghost use Rattle.cones.specs.Wider.{Keyed};
 ghost use Rattle.cone_passes.specs.Passes.{Passes, PassesLine};
 
 use cones::{Cone, CornerKey};
+use passes::CornerSet;
 use rounds::Corner;
-
-// The corners of a box that are looked at: one of them, or all four.
-#[derive(Clone, Copy)]
-pub enum CornerSet {
-    One(Corner),
-    Four,
-}
-
-// Whether a point so far is the plug itself.
-#[derive(Clone, Copy)]
-pub enum Met {
-    Nowhere,
-    At(CornerKey),
-}
 
 // The first place from k on where that one corner is not strictly inside the wedge, or the number of boxes.
 fn pass_corners(

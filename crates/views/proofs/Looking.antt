@@ -14,10 +14,11 @@ use Rattle.cones.specs.Wider.{numbered, is_around}
 use Rattle.cones.specs.declared.CornerKey.{CornerKey}
 use Rattle.cones.specs.declared.Cone.{Cone}
 use Rattle.cones.specs.declared.Cone.TheVariants.{Nothing, Ray, Line, Wedge, Half, Around}
-use Rattle.cone_passes.specs.Passes.{nth_box, names_in, keys_in, Keeps, KeepsBox, Passes}
-use Rattle.cone_passes.specs.declared.CornerSet.{CornerSet}
-use Rattle.cone_passes.specs.declared.Met.{Met}
-use Rattle.cone_passes.specs.declared.Met.TheVariants.{At}
+use Rattle.passes.specs.Passes.{nth_box, names_in}
+use Rattle.cone_passes.specs.Passes.{keys_in, Keeps, KeepsBox, Passes}
+use Rattle.passes.specs.declared.CornerSet.{CornerSet}
+use Rattle.passes.specs.declared.Met.{Met}
+use Rattle.passes.specs.declared.Met.TheVariants.{At}
 use Rattle.views.specs.Views.{nth_name}
 use Rattle.views.specs.Looking.{view_with, view_with_all, looked_over}
 use Rattle.views.specs.declared.View.{View}

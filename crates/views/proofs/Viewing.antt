@@ -26,13 +26,14 @@ use Rattle.cones.specs.declared.Cone.{Cone}
 use Rattle.cones.specs.declared.Cone.TheVariants.{Nothing, Ray, Line, Wedge, Half, Around}
 use Rattle.cones.proofs.Widening.{supported_fewer, around_more}
 use Rattle.cones.proofs.Wider.{with_says, says_keyed}
-use Rattle.cone_passes.specs.Passes.{nth_box, names_in, corners_in, keys_in}
-use Rattle.cone_passes.specs.declared.CornerSet.{CornerSet}
-use Rattle.cone_passes.specs.declared.CornerSet.TheVariants.{One}
-use Rattle.cone_passes.specs.declared.Met.{Met}
-use Rattle.cone_passes.specs.declared.Met.TheVariants.{Nowhere, At}
+use Rattle.passes.specs.Passes.{MetSays, Says, nth_box, names_in, corners_in, corners_by}
+use Rattle.cone_passes.specs.Passes.{keys_in}
+use Rattle.passes.specs.declared.CornerSet.{CornerSet}
+use Rattle.passes.specs.declared.CornerSet.TheVariants.{One}
+use Rattle.passes.specs.declared.Met.{Met}
+use Rattle.passes.specs.declared.Met.TheVariants.{Nowhere, At}
 use Rattle.cone_passes.proofs.Passing.{corner_of_nth}
-use Rattle.views.specs.Views.{MetSays, Says, MetOn, ViewSays, CornerViewSays, corners_by, LooksAt, LooksOver}
+use Rattle.views.specs.Views.{MetOn, ViewSays, CornerViewSays, LooksAt, LooksOver}
 use Rattle.views.specs.Looking.{met_with, view_with, view_with_all, looked_over, nothing_seen, view_of}
 use Rattle.views.specs.declared.View.{View}
 use Rattle.views.proofs.Naming.{corner_of_lem}

@@ -7,10 +7,10 @@ use Rattle.cones.specs.Wider.{is_around, cone_with}
 use Rattle.cones.specs.declared.CornerKey.{CornerKey}
 use Rattle.cones.specs.declared.Cone.TheVariants.{Nothing}
 use Rattle.cone_passes.specs.Passes.{keys_in}
-use Rattle.cone_passes.specs.declared.Met.{Met}
-use Rattle.cone_passes.specs.declared.Met.TheVariants.{Nowhere, At}
-use Rattle.cone_passes.specs.declared.CornerSet.{CornerSet}
-use Rattle.cone_passes.specs.declared.CornerSet.TheVariants.{One}
+use Rattle.passes.specs.declared.Met.{Met}
+use Rattle.passes.specs.declared.Met.TheVariants.{Nowhere, At}
+use Rattle.passes.specs.declared.CornerSet.{CornerSet}
+use Rattle.passes.specs.declared.CornerSet.TheVariants.{One}
 use Rattle.views.specs.declared.View.{View}
 
 -- where the plug is met among the points so far and one more corner: the last that is the plug

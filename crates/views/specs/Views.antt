@@ -1,39 +1,16 @@
 -- The points so far as seen from a plug: what their cone and a corner that is the plug say. Definitions only.
-use Rattle.std.specs.Prelude.{◌≡◌, List, [], ◌∷◌, ◌++◌, map, ℕ, get_or}
+use Rattle.std.specs.Prelude.{List, [], ◌∷◌, ◌++◌, ℕ, get_or}
 use Rattle.plane.specs.Points.{Point}
-use Rattle.plane.specs.Members.{All}
-use Rattle.plane.specs.Vectors.{from, Supported}
 use Rattle.rounds.specs.Boxes.{corners_of}
 use Rattle.rounds.specs.declared.Box.{Box}
 use Rattle.rounds.specs.declared.Corner.{Corner}
 use Rattle.rounds.specs.declared.Corner.TheVariants.{SouthWest}
-use Rattle.cones.specs.Cones.{corner_point, Named, ConeSays}
+use Rattle.cones.specs.Cones.{corner_point, Named}
 use Rattle.cones.specs.declared.CornerKey.{CornerKey}
-use Rattle.cones.specs.declared.Cone.{Cone}
-use Rattle.cone_passes.specs.Passes.{names_in, corners_in}
-use Rattle.cone_passes.specs.declared.Met.{Met}
-use Rattle.cone_passes.specs.declared.Met.TheVariants.{Nowhere, At}
-use Rattle.cone_passes.specs.declared.CornerSet.{CornerSet}
+use Rattle.passes.specs.Passes.{MetSays, Says, names_in, corners_by}
+use Rattle.passes.specs.declared.Met.{Met}
+use Rattle.passes.specs.declared.CornerSet.{CornerSet}
 use Rattle.views.specs.declared.View.{View}
-
--- no point is the plug
-abbrev pub NoneAt : Point → List Point → Type 0
-NoneAt p qs = All (λ q. q ≡ p → ⊥) qs
-
--- a corner that is the plug
-pub record IsPlug (bs : List Box) (p : Point) (v : CornerKey) : Type 0 where
-  pub named : Named bs v
-  pub is : corner_point v ≡ p
-
--- a corner is the plug; or no point is, unless the plug is strictly inside their hull
-abbrev pub MetSays : List Box → List Point → Point → Met → Type 0
-MetSays bs qs p Nowhere = Supported (map (from 1 p) qs) → NoneAt p qs
-MetSays bs qs p (At v) = IsPlug bs p v
-
--- what is known of the points qs and the plug p
-pub record Says (bs : List Box) (qs : List Point) (p : Point) (cone : Cone) (met : Met) : Type 0 where
-  pub of_cone : ConeSays bs qs p cone
-  pub of_met : MetSays bs qs p met
 
 -- whether the plug is met among the points and v, whatever points they are
 pub record MetOn (p : Point) (met : Met) (v : CornerKey) (r : Met) : Type 0 where
@@ -51,11 +28,6 @@ CornerViewSays bs corner p view = ViewSays bs (corners_of corner bs) p view
 pub record Viewed (bs : List Box) (p : Point) (view : View) : Type 0 where
   pub points : List Point
   pub says : ViewSays bs points p view
-
--- those corners of every box, box by box
-abbrev pub corners_by : CornerSet → List Box → List Point
-corners_by set [] = []
-corners_by set (b ∷ bs) = corners_in set b ++ corners_by set bs
 
 -- the view is that of the start's points and of more, whatever points the start's are
 pub record LooksAt (bs : List Box) (p : Point) (start : View) (more : List Point) (view : View) : Type 0 where

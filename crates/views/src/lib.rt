@@ -7,12 +7,12 @@ ghost use Rattle.turns.specs.Keys.{Key, point_of};
 ghost use Rattle.rounds.specs.Boxes.{BoxList, boxes_of};
 ghost use Rattle.cones.specs.Cones.{CornerOf};
 ghost use Rattle.cones.specs.Wider.{numbered, Keyed};
-ghost use Rattle.cone_passes.specs.Passes.{nth_box, names_in};
+ghost use Rattle.passes.specs.Passes.{nth_box, names_in};
 ghost use Rattle.views.specs.Views.{MetOn, CornerViewSays, nth_name, LooksOver};
 ghost use Rattle.views.specs.Looking.{met_with, looked_over, view_of};
 
-use cone_passes::{CornerSet, Met};
 use cones::{Cone, CornerKey};
+use passes::{CornerSet, Met};
 use rounds::Corner;
 
 // The points so far, as seen from the plug.

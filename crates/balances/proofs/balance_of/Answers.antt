@@ -8,7 +8,7 @@ use Rattle.rounds.specs.declared.Box.{Box}
 use Rattle.rounds.specs.declared.Corner.TheVariants.{SouthWest}
 use Rattle.cones.specs.Cones.{Known}
 use Rattle.cones.proofs.Wider.{says_keyed}
-use Rattle.cone_passes.specs.declared.CornerSet.TheVariants.{Four}
+use Rattle.passes.specs.declared.CornerSet.TheVariants.{Four}
 use Rattle.views.specs.Looking.{looked_over}
 use Rattle.views.specs.declared.View.{View}
 use Rattle.views.proofs.Viewing.{looks_over}

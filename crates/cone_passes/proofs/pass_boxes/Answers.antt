@@ -11,8 +11,8 @@ use Rattle.plane.proofs.Lists.{index_of_all}
 use Rattle.turns.specs.Keys.{point_of}
 use Rattle.rounds.specs.Boxes.{boxes_of}
 use Rattle.rounds.proofs.Rows.{boxes_length}
-use Rattle.cone_passes.specs.Passes.{nth_box}
-use Rattle.cone_passes.specs.declared.CornerSet.TheVariants.{Four}
+use Rattle.passes.specs.Passes.{nth_box}
+use Rattle.passes.specs.declared.CornerSet.TheVariants.{Four}
 use Rattle.cone_passes.proofs.Passing.{corner_of_nth, four_inside, passes_none, passes_inside}
 use Rattle.cone_passes.proofs.pass_boxes.Goals as goal
 

@@ -4,7 +4,7 @@ use lib.ListN.{length}
 use Rattle.rounds.specs.Boxes.{boxes_of}
 use Rattle.cone_passes.specs.Passes.{Passes}
 use Rattle.cones.specs.declared.Cone.TheVariants.{Wedge}
-use Rattle.cone_passes.specs.declared.CornerSet.TheVariants.{Four}
+use Rattle.passes.specs.declared.CornerSet.TheVariants.{Four}
 use Rattle.cone_passes.proofs.pass_boxes.Given as goal
 
 abbrev pub invariant-loop-i : goal.invariant-loop-i

@@ -9,7 +9,7 @@ use Rattle.cones.specs.Wider.{Keyed}
 use Rattle.cones.proofs.Wider.{first_key, second_key}
 use Rattle.cones.specs.declared.Cone.{Cone}
 use Rattle.cone_passes.specs.Passes.{Passes}
-use Rattle.cone_passes.specs.declared.CornerSet.{CornerSet}
+use Rattle.passes.specs.declared.CornerSet.{CornerSet}
 use Rattle.cone_passes.proofs.Passing.{passes_none}
 use Rattle.cone_passes.proofs.pass_cone.Goals as goal
 

@@ -10,7 +10,7 @@ use Rattle.turns.specs.Keys.{point_of}
 use Rattle.rounds.specs.Boxes.{boxes_of}
 use Rattle.rounds.proofs.Rows.{boxes_length}
 use Rattle.cones.proofs.Turns.{back_pos}
-use Rattle.cone_passes.specs.declared.CornerSet.TheVariants.{One}
+use Rattle.passes.specs.declared.CornerSet.TheVariants.{One}
 use Rattle.cone_passes.proofs.Passing.{corner_of_nth, InsideWedge, passes_none, passes_inside}
 use borrow.Author.Rules.{rules}
 use Rattle.cone_passes.proofs.pass_corners.Goals as goal

@@ -14,7 +14,7 @@ use Rattle.rounds.specs.Boxes.{boxes_of}
 use Rattle.rounds.specs.declared.Corner.{Corner}
 use Rattle.rounds.proofs.Rows.{boxes_length}
 use Rattle.cone_passes.specs.Passes.{PassesLine}
-use Rattle.cone_passes.specs.declared.CornerSet.TheVariants.{One}
+use Rattle.passes.specs.declared.CornerSet.TheVariants.{One}
 use Rattle.cone_passes.proofs.Passing.{corner_of_nth, OnLineApart, passes_none, passes_line}
 use Rattle.cone_passes.proofs.pass_line.Goals as goal
 use Rattle.cone_passes.proofs.pass_line.Goals.{At-loop-i}

@@ -3,7 +3,7 @@ use Prim.Native.Nat.{◌/◌, ◌-◌}
 use lib.ListN.{length}
 use Rattle.rounds.specs.Boxes.{boxes_of}
 use Rattle.cone_passes.specs.Passes.{PassesLine}
-use Rattle.cone_passes.specs.declared.CornerSet.TheVariants.{One}
+use Rattle.passes.specs.declared.CornerSet.TheVariants.{One}
 use Rattle.cone_passes.proofs.pass_line.Given as goal
 
 abbrev pub invariant-loop-i : goal.invariant-loop-i

@@ -16,10 +16,10 @@ use Rattle.cones.specs.Wider.{numbered, Keyed, is_around, cone_with}
 use Rattle.cones.specs.declared.Cone.{Cone}
 use Rattle.cones.specs.declared.CornerKey.{CornerKey}
 use Rattle.cones.proofs.Wider.{keyed_with}
-use Rattle.cone_passes.specs.Passes.{nth_box, names_in}
-use Rattle.cone_passes.specs.declared.CornerSet.{CornerSet}
-use Rattle.cone_passes.specs.declared.Met.{Met}
-use Rattle.cone_passes.specs.declared.CornerSet.TheVariants.{One, Four}
+use Rattle.passes.specs.Passes.{nth_box, names_in}
+use Rattle.passes.specs.declared.CornerSet.{CornerSet}
+use Rattle.passes.specs.declared.Met.{Met}
+use Rattle.passes.specs.declared.CornerSet.TheVariants.{One, Four}
 use Rattle.cone_passes.proofs.Passing.{numbered_key}
 use Rattle.views.specs.Views.{nth_name, LooksOver}
 use Rattle.views.specs.Looking.{met_with, view_with, looked_over}

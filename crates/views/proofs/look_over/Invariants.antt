@@ -7,8 +7,8 @@ use lib.IntN.{ℤ}
 use lib.ListN.{length, drop}
 use Rattle.rounds.specs.Boxes.{boxes_of}
 use Rattle.cones.specs.Wider.{Keyed}
-use Rattle.cone_passes.specs.Passes.{names_in}
-use Rattle.cone_passes.specs.declared.CornerSet.{CornerSet}
+use Rattle.passes.specs.Passes.{names_in}
+use Rattle.passes.specs.declared.CornerSet.{CornerSet}
 use Rattle.views.specs.Looking.{looked_over}
 use Rattle.views.specs.declared.View.{View}
 use Rattle.views.proofs.Looking.{seen, rest}

@@ -3,7 +3,7 @@ use mathlib.Core.Path.{sym, ap, subst}
 use mathlib.Core.Bool.{cond}
 use borrow.Author.Tests.{eq-eqb, ne_eqb}
 use Rattle.turns.specs.Keys.{point_of}
-use Rattle.cone_passes.specs.declared.Met.TheVariants.{At}
+use Rattle.passes.specs.declared.Met.TheVariants.{At}
 use Rattle.views.specs.Views.{MetOn}
 use Rattle.views.proofs.Viewing.{met_says}
 use Rattle.views.proofs.meet.Goals as goal

@@ -10,7 +10,7 @@ use Rattle.rounds.proofs.Rows.{boxes_length}
 use Rattle.cones.specs.Cones.{CornerOf}
 use Rattle.cones.specs.Wider.{numbered}
 use Rattle.cones.specs.declared.CornerKey.{CornerKey}
-use Rattle.cone_passes.specs.Passes.{nth_box}
+use Rattle.passes.specs.Passes.{nth_box}
 use Rattle.cone_passes.proofs.Passing.{corner_of_nth}
 use Rattle.views.proofs.Viewing.{numbered_corner}
 use Rattle.views.proofs.nth_corner.Goals as goal

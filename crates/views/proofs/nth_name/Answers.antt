@@ -4,9 +4,9 @@ use Prim.Native.Nat.{ℕ, ◌<◌}
 use native.Mathlib.Omega.{arith}
 use lib.ListN.{length}
 use Rattle.rounds.specs.declared.Corner.{Corner}
-use Rattle.cone_passes.specs.Passes.{names_in}
+use Rattle.passes.specs.Passes.{names_in}
 use Rattle.views.specs.Views.{nth_name}
-use Rattle.cone_passes.specs.declared.CornerSet.TheVariants.{One}
+use Rattle.passes.specs.declared.CornerSet.TheVariants.{One}
 use Rattle.views.proofs.nth_name.Goals as goal
 
 pub nth_of_four-requires : goal.nth_of_four-requires

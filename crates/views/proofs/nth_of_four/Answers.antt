@@ -2,7 +2,7 @@
 use mathlib.Core.Path.{◌≡◌, sym, ap}
 use native.Mathlib.Omega.{arith}
 use Rattle.views.specs.Views.{nth_name}
-use Rattle.cone_passes.specs.declared.CornerSet.TheVariants.{Four}
+use Rattle.passes.specs.declared.CornerSet.TheVariants.{Four}
 use Rattle.views.proofs.nth_of_four.Goals as goal
 
 pub returns : goal.returns
