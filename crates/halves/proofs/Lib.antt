@@ -2,6 +2,8 @@
 --     Halving     keys split by a line
 --     Appending   numbers of a list appended to another
 --     Reordering  the first numbers of a list, sorted
+--     Joining     two parts of keys sorted at once
 pub mod Halving
 pub mod Appending
 pub mod Reordering
+pub mod Joining

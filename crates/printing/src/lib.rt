@@ -3,16 +3,39 @@
 #![tactic(auto)]
 
 ghost use Rattle.std.specs.Prelude.{◌*◌, ◌≤◌, length};
-ghost use Rattle.texts.specs.Text.{text_of, Wrote};
-ghost use Rattle.plug_lines.specs.Steps.{most_plug_line};
+ghost use Rattle.texts.specs.Text.{count_line, text_of, Wrote};
+ghost use Rattle.plug_lines.specs.Steps.{most_plug_line, LineRoom};
 ghost use Rattle.text_parts.specs.Steps.{Waiting, lines_left};
-ghost use Rattle.printing.specs.Steps.{TextRoom};
+ghost use Rattle.printing.specs.Steps.{TextRoom, most_count_line, round_text};
 
 use plug_lines::MOST_VERTICES;
 use plug_words::RoundShapes;
+use rounds::Checked;
 
 // The length of the text's buffer, in which the text of every input has room.
 pub const TEXT_LENGTH: usize = 131072;
+
+// Writes the line of the counts.
+fn write_counts(boxes: usize, plugs: usize, out: &mut [u8]) -> usize
+    requires { most_count_line ≤ length out.old }
+    ensures { Wrote (count_line boxes plugs) out.old result out.new }
+{
+    texts::write_fields(b"boxes ", boxes, b" plugs ", plugs, out)
+}
+
+// Writes the text of a box list and a plug list.
+fn write_round_text(boxes: &[i32], plugs: &[i32], out: &mut [u8]) -> usize
+    requires { LineRoom most_count_line plugs.now out.old }
+    ensures { Wrote
+        (round_text boxes.now plugs.now) out.old result out.new }
+{
+    let checked = box_checks::check_boxes(boxes);
+    if let Checked::Refused(refusal) = checked {
+        return text_parts::write_refusal(refusal, out);
+    }
+    let n = write_counts(boxes.len() / 4, plugs.len() / 2, out);
+    n + plug_lines::write_plug_lines(boxes, plugs, &mut out[n..])
+}
 
 // Writes the lines of all plugs of a file, the first of which is read from `from` on.
 fn write_all_lines(

@@ -48,7 +48,7 @@ pub struct Piece {
 }
 
 // Writes the line of a refused file or round.
-fn write_refusal(refusal: Refusal, out: &mut [u8]) -> usize
+pub fn write_refusal(refusal: Refusal, out: &mut [u8]) -> usize
     requires { most_refused_line ≤ length out.old }
     ensures { Wrote
         (refused_line (number_of refusal.cause) refusal.place) out.old result out.new }
