@@ -8,10 +8,10 @@ use Rattle.print_round.specs.declared.Input.TheVariants.{Read, Failed}
 abbrev pub IsPrefixLen : ℕ → List ℕ → Type 0
 IsPrefixLen n bytes = (n ≤ length bytes) × (n ≡ length (take n bytes))
 
--- the bytes that were read lie within the buffer
+-- the bytes that were read, also those before a read that failed, lie within the buffer
 abbrev pub Within : Input → List ℕ → Type 0
 Within (Read n) buffer = IsPrefixLen n buffer
-Within Failed buffer = Unit {0}
+Within (Failed n) buffer = IsPrefixLen n buffer
 
 -- ---- printing
 

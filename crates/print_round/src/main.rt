@@ -1,6 +1,7 @@
 // The printing program (docs/SCOPE.md 8): it reads a round file on standard input and prints its text, part by part as
 // `text_parts` gives them. One byte more than 65,536 is read, so that a longer input is seen. A read or a write that
-// fails is told on standard error; where a read fails nothing is printed, and where a write fails nothing more.
+// fails is told on standard error; where a read fails the text is that of what was read before, and where a write fails
+// nothing more is printed.
 #![tactic(auto)]
 
 ghost use Rattle.std.specs.Prelude.{◌≤◌, ◌≡◌, true, take, length};
@@ -16,11 +17,11 @@ use text_parts::PIECE_LENGTH;
 // One byte more than an input may have.
 const READ_LENGTH: usize = MOST_INPUT + 1;
 
-// What reading came to: so many bytes at the front of the buffer, or a read that failed.
+// What reading came to: so many bytes at the front of the buffer, or as many before a read that failed.
 #[derive(Clone, Copy)]
 enum Input {
     Read(usize),
-    Failed,
+    Failed(usize),
 }
 
 // One read: so many bytes at the front of the buffer, 0 at the end of the input.
@@ -29,7 +30,7 @@ fn read_part(source: &mut impl Read, buffer: &mut [u8]) -> Input
 {
     match source.read(buffer) {
         Ok(bytes) => Input::Read(bytes),
-        Err(_) => Input::Failed,
+        Err(_) => Input::Failed(0),
     }
 }
 
@@ -41,7 +42,7 @@ fn read_input(source: &mut impl Read, buffer: &mut [u8]) -> Input
     while done < buffer.len() {
         let part = read_part(source, &mut buffer[done..]);
         let Input::Read(more) = part else {
-            return Input::Failed;
+            return Input::Failed(done);
         };
         if more == 0 {
             return Input::Read(done);
@@ -97,7 +98,8 @@ fn main(rt: HostRuntime) {
     let mut input = [0u8; READ_LENGTH];
     match read_input(&mut rt.stdin(), &mut input) {
         Input::Read(n) => print_input(&rt, &input[..n]),
-        Input::Failed => {
+        Input::Failed(n) => {
+            print_input(&rt, &input[..n]);
             let _ = eprintln!(rt; "print_round: reading failed");
         }
     }
