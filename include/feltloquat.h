@@ -34,7 +34,7 @@
  *
  * What is proved of a call that answers with a struct (crates/c_api): the answer that the struct means keeps the promise of the library's
  * call that is wrapped, and the struct is that answer's numbers (`Answered` in crates/c_answers). The verdicts and the word are equal to
- * those of one definition (`verdictOf` in crates/verdicts), reasons included. Of feltloquat_print_round: the text and its length. Not proved but tested (tests/c): that this header names the fields and the parameters as the library does.
+ * those of one definition (`verdict_of` in crates/verdicts), reasons included. Of feltloquat_print_round: the text and its length. Not proved but tested (tests/c): that this header names the fields and the parameters as the library does.
  *
  * No call has a precondition on numbers, bytes or lengths. What a caller owes is what C always asks: each list is a pointer to as many numbers,
  * records or bytes as its length says, aligned as their type asks, and a list that a call writes overlaps no other. A list of length 0 may
