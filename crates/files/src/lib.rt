@@ -9,12 +9,49 @@ ghost use Rattle.std.specs.Prelude.{◌+◌, ◌*◌, ◌/◌, ◌≤◌, ◌≡
 ghost use mathlib.Core.List.{flat_map};
 ghost use Rattle.rounds.specs.Boxes.{boxes_of, plugs_of};
 ghost use Rattle.formats.specs.Format.{box_length, plug_length, box_record, plug_record};
+ghost use Rattle.formats.specs.Content.{content_of};
 ghost use Rattle.formats.specs.Promises.{RoundRead, RoundWritten};
 ghost use Rattle.file_records.specs.Records.{over};
+ghost use Rattle.files.specs.Steps.{Room, BuffersFilled};
 
-use file_records::{BOX_LENGTH, END_MARK, MARK_LENGTH, PLUG_LENGTH};
+use file_records::{BOX_LENGTH, END_MARK, MARK_LENGTH, PLUG_LENGTH, Record};
 use formats::{Reading, Writing};
 use rounds::Checked;
+
+// Fills two buffers that have room for the boxes and plugs of a well-formed file.
+fn fill(file: &[u8], boxes: &mut [i32], plugs: &mut [i32])
+    requires { Room (content_of file.now) (length boxes.old) (length plugs.old) }
+    ensures { BuffersFilled file.now boxes.old plugs.old
+        boxes.new plugs.new }
+{
+    let mut at: usize = 0;
+    let mut edge: usize = 0;
+    let mut coordinate: usize = 0;
+    loop {
+        let found = file_records::next_record(file, at, 0 < coordinate);
+        match found {
+            Record::Box(next) => {
+                file_records::put_box(file, at + MARK_LENGTH, boxes, edge);
+                edge += 4;
+                at = next;
+            }
+            Record::Plug(next) => {
+                file_records::put_plug(file, at + MARK_LENGTH, plugs, coordinate);
+                coordinate += 2;
+                at = next;
+            }
+            Record::Note(next) => {
+                at = next;
+            }
+            Record::End => {
+                return;
+            }
+            Record::Refused(_) => {
+                return;
+            }
+        }
+    }
+}
 
 // Reads a round file into a buffer of boxes and one of plugs, and returns both counts. It judges form only.
 pub fn read_round(file: &[u8], boxes: &mut [i32], plugs: &mut [i32]) -> Reading
