@@ -80,8 +80,8 @@ fn is_in_triangle(
 // plug, the same boxes are tried first.
 fn support_at(boxes: &[i32], corner: Corner, plug: u32, southwest: Cone) -> Support
     requires box_list { BoxList boxes.now × Key plug }
-    requires cone_says { ConeSays (boxes_of boxes.now) (corners_of Corner.SouthWest (boxes_of boxes.now)) (point_of plug)
-        southwest }
+    requires cone_says { ConeSays (boxes_of boxes.now)
+        (corners_of Corner.SouthWest (boxes_of boxes.now)) (point_of plug) southwest }
     ensures exact { result ≡ support_of_corner plug corner (boxes_of boxes.now) }
     ensures supports { SupportAt (boxes_of boxes.now) (point_of plug) corner result }
 {

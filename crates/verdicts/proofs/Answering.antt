@@ -4,7 +4,7 @@ use mathlib.Core.List.{List, [], ◌∷◌, map}
 use Prim.Native.Nat.{ℕ}
 use native.Mathlib.Omega.{arith}
 use lib.IntN.{ℤ}
-use Rattle.plane.specs.Points.{Point}
+use Rattle.plane.specs.Points.{Point, point}
 use Rattle.plane.specs.Members.{All}
 use Rattle.plane.specs.Vectors.{from, Separated}
 use Rattle.turns.specs.Keys.{Key, key_at, point_of}
@@ -40,6 +40,10 @@ use Rattle.verdicts.specs.declared.Verdict.{Verdict}
 use Rattle.verdicts.specs.declared.Verdict.TheVariants as Verdict'
 use Rattle.verdicts.specs.Verdicts.{Judged, verdict_on, VerdictIs}
 use Rattle.verdicts.specs.Answers.{verdict_by, verdict_from, verdict_under, verdict_of}
+
+-- what is known of the point of the machine's numbers is known of the point itself
+pub moved : (P : Point → Type 0) {e n east north : ℤ} → e ≡ east → n ≡ north → P (point e n) → P (point east north)
+moved P {e = e} {north = north} p q x = subst (λ a. P (point a north)) p (subst (λ b. P (point e b)) q x)
 
 -- boxes and a plug that no cause turns back
 pub verdict_accepted : (l : List ℤ) (p : Point) → verdict_fault l p ≡ Fault.none → (box_list_fault l ≡ Fault.none) × (plug_fault 1 p ≡ Fault.none)

@@ -16,5 +16,6 @@ positive_dot_product-at_b-requires c = let w = c.requires.1 in record { key = (w
 pub returns : goal.returns
 returns c =
     let e : Reason c.entry_of.result c.entry_of-2.result c.entry_of-3.result ≡ between_two c.args.plug c.args.a c.args.b =
-    rw (c.entry_of.ensures, c.entry_of-2.ensures, c.entry_of-3.ensures) (ap₂ (λ m n. Reason (entry_of c.args.a m) (entry_of c.args.b n) (entry_of c.args.a 0)) (ap nat_abs c.positive_dot_product-at_a.ensures) (ap nat_abs c.positive_dot_product-at_b.ensures)) in
+    rw (c.entry_of.ensures, c.entry_of-2.ensures, c.entry_of-3.ensures)
+    (ap₂ (λ m n. Reason (entry_of c.args.a m) (entry_of c.args.b n) (entry_of c.args.a 0)) (ap nat_abs c.positive_dot_product-at_a.ensures) (ap nat_abs c.positive_dot_product-at_b.ensures)) in
     record { exact = e; balances = two_says c.args.plug c.requires.0 c.args.a c.args.b c.requires.1 e }

@@ -80,6 +80,7 @@ turns_left-requires-3 c = (c.requires.box_list.1, c.corner_key-w.ensures.key, c.
 
 pub returns : goal.returns
 returns c =
+    let s = c.before.before.before.before.before.before.before.before.before in
     let p = point_of c.args.plug in
     let ku = c.corner_key-u in
     let kv = c.corner_key-v in
@@ -92,5 +93,5 @@ returns c =
           let t = all_three _ _ _ e in
           winding_within p u (w ∷ v ∷ []) _
           (cycle_neg_back p u w (lt_z_true (sym c.turns_left-3.ensures ∙ t.2)), (cycle_neg_back p w v (lt_z_true (sym c.turns_left-2.ensures ∙ t.1)), cycle_neg_back p v u (lt_z_true (sym c.turns_left.ensures ∙ t.0))))
-          (listed c.before.before.before.before.before.before.before.before.before c.requires.named.0 u ku.ensures.is & listed c.before.before.before.before.before.before.before.before.before c.requires.named.2 w kw.ensures.is & listed c.before.before.before.before.before.before.before.before.before c.requires.named.1 v kv.ensures.is & none);
+          (listed s c.requires.named.0 u ku.ensures.is & listed s c.requires.named.2 w kw.ensures.is & listed s c.requires.named.1 v kv.ensures.is & none);
     }

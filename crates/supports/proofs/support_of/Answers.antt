@@ -58,10 +58,14 @@ returns-in-Reason-se c =
 
 pub returns-in-Reason-ne : goal.returns-in-Reason-ne
 returns-in-Reason-ne c =
-    let e = by-ne c.args.plug (boxes_of c.args.boxes.now) c.args.view (sym c.support_by-sw.ensures.exact ∙ c.in_default.is) (sym c.support_at-se.ensures.exact ∙ c.in_default-se.is) (sym c.support_at-ne.ensures.exact ∙ c.in-Reason-ne.is) in
+    let bs = boxes_of c.args.boxes.now in
+    let e = by-ne c.args.plug bs c.args.view (sym c.support_by-sw.ensures.exact ∙ c.in_default.is) (sym c.support_at-se.ensures.exact ∙ c.in_default-se.is) (sym c.support_at-ne.ensures.exact ∙ c.in-Reason-ne.is) in
     record { exact = e; supports = support_found c.args.plug c.requires.box_list.1 (boxes_of c.args.boxes.now) c.requires.box_list.0.in_span c.args.view c.requires.corner_view_says e }
 
 pub returns : goal.returns
 returns c =
-    let e = c.support_at.ensures.exact ∙ by-ne c.args.plug (boxes_of c.args.boxes.now) c.args.view (sym c.support_by-sw.ensures.exact ∙ c.in_default.is) (sym c.support_at-se.ensures.exact ∙ c.in_default-se.is) (sym c.support_at-ne.ensures.exact ∙ c.in_default-ne.is) in
+    let bs = boxes_of c.args.boxes.now in
+    let e =
+    c.support_at.ensures.exact
+    ∙ by-ne c.args.plug bs c.args.view (sym c.support_by-sw.ensures.exact ∙ c.in_default.is) (sym c.support_at-se.ensures.exact ∙ c.in_default-se.is) (sym c.support_at-ne.ensures.exact ∙ c.in_default-ne.is) in
     record { exact = e; supports = support_found c.args.plug c.requires.box_list.1 (boxes_of c.args.boxes.now) c.requires.box_list.0.in_span c.args.view c.requires.corner_view_says e }

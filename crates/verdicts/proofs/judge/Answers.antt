@@ -40,7 +40,10 @@ balance_of-balance-requires c =
 
 pub returns-in_default : goal.returns-in_default
 returns-in_default c =
-    let e = let bs = boxes_of c.args.boxes.now in ap (λ b. verdict_by b (support_of c.args.plug bs c.view_of-view.result)) (sym c.in_default.is ∙ c.balance_of-balance.ensures.exact) ∙ given c.args.plug bs c.view_of-view.ensures.exact in
+    let bs = boxes_of c.args.boxes.now in
+    let e =
+    ap (λ b. verdict_by b (support_of c.args.plug bs c.view_of-view.result)) (sym c.in_default.is ∙ c.balance_of-balance.ensures.exact)
+    ∙ given c.args.plug bs c.view_of-view.ensures.exact in
     record { exact = e; judged = judged_found c.args.plug c.requires.1 (boxes_of c.args.boxes.now) c.requires.0.in_span e }
 
 pub support_of-support-requires : goal.support_of-support-requires

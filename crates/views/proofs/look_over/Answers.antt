@@ -96,22 +96,43 @@ nth_corner-v-requires c = (c.requires.0, omega arith)
 
 pub widen-cone-requires : goal.widen-cone-requires
 widen-cone-requires c =
-    (has_key c.args.set (boxes_of c.args.boxes.now) c.loop-k.k c.loop-k.j c.requires.0.in_span (omega (arith, boxes_length c.args.boxes.now)) (c.nth_corner-v.ensures.exact ∙ ap (numbered (suc c.loop-k.k) (nth_box (boxes_of c.args.boxes.now) c.loop-k.k)) c.nth_name-corner.ensures), c.requires.1, c.loop-k.invariant.keyed)
+    let bs = boxes_of c.args.boxes.now in
+    let x = c.nth_corner-v.ensures.exact ∙ ap (numbered (suc c.loop-k.k) (nth_box bs c.loop-k.k)) c.nth_name-corner.ensures in
+    (has_key c.args.set bs c.loop-k.k c.loop-k.j c.requires.0.in_span (omega (arith, boxes_length c.args.boxes.now)) x, c.requires.1, c.loop-k.invariant.keyed)
 
 pub overflow_add-j : goal.overflow_add-j
 overflow_add-j c = omega (arith, c.loop-k.invariant.place, (few-names c.args.set).1)
 
 pub returns-in-Around : goal.returns-in-Around
 returns-in-Around c =
-    let e = sym (whole c.args.plug c.args.set (boxes_of c.args.boxes.now) c.args.start c.loop-k.cone c.loop-k.met c.loop-k.k c.loop-k.j (record { in_list = (omega (arith, boxes_length c.args.boxes.now)); place = c.loop-k.invariant.place; same = c.loop-k.invariant.same }) (record { is_corner = (c.nth_corner-v.ensures.exact ∙ ap (numbered (suc c.loop-k.k) (nth_box (boxes_of c.args.boxes.now) c.loop-k.k)) c.nth_name-corner.ensures); is_wider = c.widen-cone.ensures.exact; is_met = c.meet-met.ensures.exact }) (let e = c.corner_count-each.ensures in omega (arith, c.if-j-each.true)) ∙ ap (λ b. cond b (seen c.widen-cone.result c.meet-met.result) (further c.args.plug c.args.set (boxes_of c.args.boxes.now) c.args.start c.loop-k.cone c.loop-k.met c.loop-k.k c.loop-k.j (seen c.widen-cone.result c.meet-met.result))) (ap is_around c.in-Around.is)) in
-    record { exact = e; looks_over = subst (LooksOver (boxes_of c.args.boxes.now) (point_of c.args.plug) c.args.start c.args.set) (sym e) (looks_over c.args.plug (boxes_of c.args.boxes.now) c.requires.0.in_span c.args.set c.args.start) }
+    let bs = boxes_of c.args.boxes.now in
+    let x = c.nth_corner-v.ensures.exact ∙ ap (numbered (suc c.loop-k.k) (nth_box bs c.loop-k.k)) c.nth_name-corner.ensures in
+    let w = seen c.widen-cone.result c.meet-met.result in
+    let e = sym (whole c.args.plug c.args.set bs c.args.start c.loop-k.cone c.loop-k.met c.loop-k.k c.loop-k.j
+    (record {
+      in_list = (omega (arith, boxes_length c.args.boxes.now));
+      place = c.loop-k.invariant.place;
+      same = c.loop-k.invariant.same;
+    })
+    (record { is_corner = x; is_wider = c.widen-cone.ensures.exact; is_met = c.meet-met.ensures.exact })
+    (let e = c.corner_count-each.ensures in omega (arith, c.if-j-each.true))
+    ∙ ap (λ b. cond b w (further c.args.plug c.args.set bs c.args.start c.loop-k.cone c.loop-k.met c.loop-k.k c.loop-k.j w)) (ap is_around c.in-Around.is)) in
+    record { exact = e; looks_over = subst (LooksOver bs (point_of c.args.plug) c.args.start c.args.set) (sym e) (looks_over c.args.plug bs c.requires.0.in_span c.args.set c.args.start) }
 
 pub overflow_add-k : goal.overflow_add-k
 overflow_add-k c = omega arith
 
 pub pass_cone-k-requires-then-j-each : goal.pass_cone-k-requires-then-j-each
 pass_cone-k-requires-then-j-each c =
-    (c.requires.0, omega (arith, boxes_length c.args.boxes.now), c.requires.1, subst Keyed (sym c.widen-cone.ensures.exact) (keyed_with c.args.plug c.nth_corner-v.result (has_key c.args.set (boxes_of c.args.boxes.now) c.loop-k.k c.loop-k.j c.requires.0.in_span (omega (arith, boxes_length c.args.boxes.now)) (c.nth_corner-v.ensures.exact ∙ ap (numbered (suc c.loop-k.k) (nth_box (boxes_of c.args.boxes.now) c.loop-k.k)) c.nth_name-corner.ensures)) c.loop-k.cone c.loop-k.invariant.keyed))
+    let bs = boxes_of c.args.boxes.now in
+    let x = c.nth_corner-v.ensures.exact ∙ ap (numbered (suc c.loop-k.k) (nth_box bs c.loop-k.k)) c.nth_name-corner.ensures in (
+      c.requires.0,
+      omega (arith, boxes_length c.args.boxes.now),
+      c.requires.1,
+      subst Keyed (sym c.widen-cone.ensures.exact)
+          (keyed_with c.args.plug c.nth_corner-v.result
+          (has_key c.args.set bs c.loop-k.k c.loop-k.j c.requires.0.in_span (omega (arith, boxes_length c.args.boxes.now)) x) c.loop-k.cone c.loop-k.invariant.keyed),
+    )
 
 pub loop-k-smaller-then-j-each : goal.loop-k-smaller-then-j-each
 loop-k-smaller-then-j-each c =
@@ -121,16 +142,26 @@ loop-k-smaller-then-j-each c =
 pub loop-k-preserved-then-j-each : goal.loop-k-preserved-then-j-each
 loop-k-preserved-then-j-each c =
     let bs = boxes_of c.args.boxes.now in
+    let x = c.nth_corner-v.ensures.exact ∙ ap (numbered (suc c.loop-k.k) (nth_box bs c.loop-k.k)) c.nth_name-corner.ensures in
     let e = c.pass_cone-k-then-j-each.ensures in
     let r = c.pass_cone-k-then-j-each.result in
     let w = seen c.widen-cone.result c.meet-met.result in
     record {
       in_range = omega (arith, e.upto, boxes_length c.args.boxes.now);
       place = (few-names c.args.set).0;
-      keyed = subst Keyed (sym c.widen-cone.ensures.exact) (keyed_with c.args.plug c.nth_corner-v.result (has_key c.args.set (boxes_of c.args.boxes.now) c.loop-k.k c.loop-k.j c.requires.0.in_span (omega (arith, boxes_length c.args.boxes.now)) (c.nth_corner-v.ensures.exact ∙ ap (numbered (suc c.loop-k.k) (nth_box (boxes_of c.args.boxes.now) c.loop-k.k)) c.nth_name-corner.ensures)) c.loop-k.cone c.loop-k.invariant.keyed);
+      keyed = subst Keyed (sym c.widen-cone.ensures.exact)
+          (keyed_with c.args.plug c.nth_corner-v.result
+          (has_key c.args.set bs c.loop-k.k c.loop-k.j c.requires.0.in_span (omega (arith, boxes_length c.args.boxes.now)) x) c.loop-k.cone c.loop-k.invariant.keyed);
       same =
-          whole c.args.plug c.args.set (boxes_of c.args.boxes.now) c.args.start c.loop-k.cone c.loop-k.met c.loop-k.k c.loop-k.j (record { in_list = (omega (arith, boxes_length c.args.boxes.now)); place = c.loop-k.invariant.place; same = c.loop-k.invariant.same }) (record { is_corner = (c.nth_corner-v.ensures.exact ∙ ap (numbered (suc c.loop-k.k) (nth_box (boxes_of c.args.boxes.now) c.loop-k.k)) c.nth_name-corner.ensures); is_wider = c.widen-cone.ensures.exact; is_met = c.meet-met.ensures.exact }) (let e = c.corner_count-each.ensures in omega (arith, c.if-j-each.true))
-          ∙ ap (λ b. cond b w (further c.args.plug c.args.set (boxes_of c.args.boxes.now) c.args.start c.loop-k.cone c.loop-k.met c.loop-k.k c.loop-k.j (seen c.widen-cone.result c.meet-met.result))) (not_around c.widen-cone.result c.in_default.not-Around)
+          whole c.args.plug c.args.set bs c.args.start c.loop-k.cone c.loop-k.met c.loop-k.k c.loop-k.j
+          (record {
+            in_list = (omega (arith, boxes_length c.args.boxes.now));
+            place = c.loop-k.invariant.place;
+            same = c.loop-k.invariant.same;
+          })
+          (record { is_corner = x; is_wider = c.widen-cone.ensures.exact; is_met = c.meet-met.ensures.exact })
+          (let e = c.corner_count-each.ensures in omega (arith, c.if-j-each.true))
+          ∙ ap (λ b. cond b w (further c.args.plug c.args.set bs c.args.start c.loop-k.cone c.loop-k.met c.loop-k.k c.loop-k.j (seen c.widen-cone.result c.meet-met.result))) (not_around c.widen-cone.result c.in_default.not-Around)
           ∙ passes_on c.args.plug c.args.set bs w (c.loop-k.k + 1) r e
           ∙ sym (rest_all c.args.plug c.args.set (suc r) w (drop r bs));
     }
@@ -141,9 +172,24 @@ loop-k-smaller c =
 
 pub loop-k-preserved : goal.loop-k-preserved
 loop-k-preserved c =
+    let bs = boxes_of c.args.boxes.now in
+    let x = c.nth_corner-v.ensures.exact ∙ ap (numbered (suc c.loop-k.k) (nth_box bs c.loop-k.k)) c.nth_name-corner.ensures in
     let i = c.loop-k.invariant in
     let e = c.corner_count-each.ensures in
-    record { in_range = i.in_range; place = omega (arith, i.place, c.if-j-each.false); keyed = subst Keyed (sym c.widen-cone.ensures.exact) (keyed_with c.args.plug c.nth_corner-v.result (has_key c.args.set (boxes_of c.args.boxes.now) c.loop-k.k c.loop-k.j c.requires.0.in_span (omega (arith, boxes_length c.args.boxes.now)) (c.nth_corner-v.ensures.exact ∙ ap (numbered (suc c.loop-k.k) (nth_box (boxes_of c.args.boxes.now) c.loop-k.k)) c.nth_name-corner.ensures)) c.loop-k.cone c.loop-k.invariant.keyed); same = next c.args.plug c.args.set (boxes_of c.args.boxes.now) c.args.start c.loop-k.cone c.loop-k.met c.loop-k.k c.loop-k.j (record { in_list = (omega (arith, boxes_length c.args.boxes.now)); place = c.loop-k.invariant.place; same = c.loop-k.invariant.same }) (record { is_corner = (c.nth_corner-v.ensures.exact ∙ ap (numbered (suc c.loop-k.k) (nth_box (boxes_of c.args.boxes.now) c.loop-k.k)) c.nth_name-corner.ensures); is_wider = c.widen-cone.ensures.exact; is_met = c.meet-met.ensures.exact }) }
+    record {
+      in_range = i.in_range;
+      place = omega (arith, i.place, c.if-j-each.false);
+      keyed = subst Keyed (sym c.widen-cone.ensures.exact)
+          (keyed_with c.args.plug c.nth_corner-v.result
+          (has_key c.args.set bs c.loop-k.k c.loop-k.j c.requires.0.in_span (omega (arith, boxes_length c.args.boxes.now)) x) c.loop-k.cone c.loop-k.invariant.keyed);
+      same = next c.args.plug c.args.set bs c.args.start c.loop-k.cone c.loop-k.met c.loop-k.k c.loop-k.j
+          (record {
+            in_list = (omega (arith, boxes_length c.args.boxes.now));
+            place = c.loop-k.invariant.place;
+            same = c.loop-k.invariant.same;
+          })
+          (record { is_corner = x; is_wider = c.widen-cone.ensures.exact; is_met = c.meet-met.ensures.exact });
+    }
 
 pub returns : goal.returns
 returns c =
