@@ -8,7 +8,7 @@ use lib.Dec.{eqb}
 use lib.IntN.{ℤ, pos}
 use lib.ListN.{length, drop, length-append, length-replicate}
 use Rattle.plane.specs.Members.{All, none, ◌&◌, ◌∈◌, here, there}
-use Rattle.plane.specs.Points.{Point}
+use Rattle.plane.specs.declared.Point.{Point}
 use Rattle.plane.specs.Polygons.{Distinct, Polygon}
 use Rattle.plane.proofs.Lists.{all_imp}
 use Rattle.rounds.specs.Boxes.{boxes_of, all_corners}

@@ -1,7 +1,7 @@
 -- What the outer polygon's call and the corner polygons' call promise: the reply, and every number of the lent buffer at exit, refusals too. Only the start of each
 -- polygon is left open (plane's Polygon says what holds of it). Definitions only.
 use Rattle.std.specs.Prelude.{◌≡◌, List, ◌++◌, ℕ, ℤ, length}
-use Rattle.plane.specs.Points.{Point}
+use Rattle.plane.specs.declared.Point.{Point}
 use Rattle.plane.specs.Polygons.{Polygon}
 use Rattle.rounds.specs.Boxes.{boxes_of, corners_of, all_corners}
 use Rattle.rounds.specs.Refusals.{Fault, none, fault, refusal_fault, area_fault}

@@ -1,6 +1,6 @@
 -- What the private steps of the polygon calls leave: polygons in the buffer, and zeros behind them. Definitions only.
 use Rattle.std.specs.Prelude.{◌≡◌, List, ◌++◌, ℕ, ℤ, length}
-use Rattle.plane.specs.Points.{Point}
+use Rattle.plane.specs.declared.Point.{Point}
 use Rattle.plane.specs.Polygons.{Polygon}
 use Rattle.rounds.specs.Boxes.{boxes_of, corners_of, all_corners}
 use Rattle.rounds.specs.declared.Corner.TheVariants.{SouthWest, SouthEast, NorthEast, NorthWest}

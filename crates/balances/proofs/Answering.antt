@@ -11,7 +11,8 @@ use Rattle.integers.proofs.Lin.{lin}
 use Rattle.integers.proofs.Ring.{ring}
 use Rattle.integers.proofs.Cert.{cert, hyp, eqn, ◌⊞◌, ◌∵◌}
 use Rattle.integers.proofs.Order.{<→≤, ≤-antisym, not-≤}
-use Rattle.plane.specs.Points.{Point, signed_area, dot_product, outward_east, outward_north}
+use Rattle.plane.specs.Points.{signed_area, dot_product, outward_east, outward_north}
+use Rattle.plane.specs.declared.Point.{Point}
 use Rattle.plane.specs.Members.{All, none, ◌&◌}
 use Rattle.plane.specs.Vectors.{from, along}
 use Rattle.plane.proofs.Lists.{all_at, all_both, all_map, all_unmap, all_append, all_right}

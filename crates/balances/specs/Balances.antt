@@ -1,6 +1,7 @@
 -- What the corners of boxes tell the second driver of a plug, and what a cone and a view tell. Definitions only.
 use Rattle.std.specs.Prelude.{◌≡◌, List, [], ◌∷◌, map, pos, ◌≤ℤ◌, ◌<ℤ◌}
-use Rattle.plane.specs.Points.{Point, signed_area, dot_product}
+use Rattle.plane.specs.Points.{signed_area, dot_product}
+use Rattle.plane.specs.declared.Point.{Point}
 use Rattle.plane.specs.Members.{All}
 use Rattle.plane.specs.Vectors.{from, Supported, Separated as StrictlyBehind}
 use Rattle.turns.specs.Keys.{Key}

@@ -13,7 +13,8 @@ use Rattle.integers.proofs.Expr.{◌⊕◌, ◌⊖◌, ◌⊗◌, ⊝◌, #◌, 
 use Rattle.integers.proofs.Ring.{ring}
 use Rattle.integers.proofs.Cert.{cert, hyp, sq, eqn, ◌⊞◌, ◌⊠◌, ◌∵◌, ◌∵◌÷◌}
 use Rattle.integers.proofs.Order.{<→≤, ≡→≤, lt_or_ge}
-use Rattle.plane.specs.Points.{Point, point, signed_area, dot_product as along-way}
+use Rattle.plane.specs.Points.{point, signed_area, dot_product as along-way}
+use Rattle.plane.specs.declared.Point.{Point}
 use Rattle.plane.proofs.Twins.{pt, signed_areaᴱ, det, detᴱ}
 use Rattle.plane.proofs.Angular.{Up, ahead, above, right_trans, right_trans_l}
 use Rattle.plane.proofs.PolygonFacts.{Between}

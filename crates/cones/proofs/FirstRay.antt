@@ -8,7 +8,8 @@ use Rattle.integers.proofs.Expr.{#◌, ◌≼◌, ◌≺◌, ◌≐◌, ◌⟹�
 use Rattle.integers.proofs.Lin.{lin}
 use Rattle.integers.proofs.Cert.{cert, hyp, num, ◌∵◌}
 use Rattle.integers.proofs.Order.{≡→≤}
-use Rattle.plane.specs.Points.{Point, signed_area, dot_product, outward_east, outward_north}
+use Rattle.plane.specs.Points.{signed_area, dot_product, outward_east, outward_north}
+use Rattle.plane.specs.declared.Point.{Point}
 use Rattle.plane.specs.Members.{All}
 use Rattle.plane.specs.Vectors.{from, along, Supported}
 use Rattle.plane.proofs.Lists.{all_imp, all_map}

@@ -8,7 +8,8 @@ use lib.Signed.{◌≤ℤ◌, ◌<ℤ◌}
 use Rattle.integers.proofs.Expr.{⊝◌, #◌, ◌≼◌, ◌≺◌, ◌≐◌, ◌⟹◌, bot}
 use Rattle.integers.proofs.Ring.{ring}
 use Rattle.integers.proofs.Cert.{cert, hyp, eqn, ◌⊞◌, ◌⊠◌, ◌∵◌, ◌∵◌÷◌}
-use Rattle.plane.specs.Points.{Point, signed_area, dot_product}
+use Rattle.plane.specs.Points.{signed_area, dot_product}
+use Rattle.plane.specs.declared.Point.{Point}
 use Rattle.plane.proofs.Twins.{signed_areaᴱ, pt}
 use Rattle.plane.proofs.Sides.{dot_productᴱ}
 use Rattle.plane.proofs.PolygonFacts.{apart_length}

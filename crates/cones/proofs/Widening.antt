@@ -6,7 +6,8 @@ use lib.Signed.{◌≤ℤ◌, ◌<ℤ◌}
 use Rattle.integers.proofs.Ring.{ring}
 use Rattle.integers.proofs.Expr.{#◌, ◌≐◌}
 use Rattle.integers.proofs.Order.{<→≤, ≡→≤}
-use Rattle.plane.specs.Points.{Point, signed_area, dot_product}
+use Rattle.plane.specs.Points.{signed_area, dot_product}
+use Rattle.plane.specs.declared.Point.{Point}
 use Rattle.plane.specs.Members.{All, none, ◌&◌, here}
 use Rattle.plane.specs.Vectors.{from, Supported}
 use Rattle.plane.proofs.Lists.{all_at, all_imp, all_both, all_map, all_unmap, all_append, all_left, in_left, in_right}

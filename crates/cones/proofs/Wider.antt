@@ -8,7 +8,8 @@ use lib.IntN.{pos}
 use borrow.Author.Tests.{eqb-true, eqb-false}
 use Rattle.integers.proofs.Machine.{lt_z_true, lt_z_false}
 use Rattle.integers.proofs.Order.{<→≤, ≡→≤}
-use Rattle.plane.specs.Points.{Point, signed_area}
+use Rattle.plane.specs.Points.{signed_area}
+use Rattle.plane.specs.declared.Point.{Point}
 use Rattle.plane.specs.Members.{All, none, ◌&◌}
 use Rattle.turns.specs.Keys.{Key, point_of}
 use Rattle.turns.specs.Turns.{turn_of}

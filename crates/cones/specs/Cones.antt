@@ -1,7 +1,8 @@
 -- The cone of some points as seen from a plug: what each case says. The points are corners of boxes of a list, and those that a cone holds
 -- keep their box number and corner name. Definitions only.
 use Rattle.std.specs.Prelude.{◌≡◌, List, [], ◌∷◌, ◌++◌, map, ℕ, ◌≤◌, pos, ◌≤ℤ◌, ◌<ℤ◌, length}
-use Rattle.plane.specs.Points.{Point, signed_area, dot_product}
+use Rattle.plane.specs.Points.{signed_area, dot_product}
+use Rattle.plane.specs.declared.Point.{Point}
 use Rattle.plane.specs.Members.{All, ◌∈◌}
 use Rattle.plane.specs.Vectors.{from, Supported}
 use Rattle.turns.specs.Keys.{Key, point_of}

@@ -10,7 +10,8 @@ use lib.ListN.{length, get_or}
 use Rattle.integers.proofs.Expr.{⊝◌, ◌≼◌, ◌⟹◌}
 use Rattle.integers.proofs.Lin.{lin}
 use Rattle.integers.proofs.Order.{≡→≤}
-use Rattle.plane.specs.Points.{Point, point}
+use Rattle.plane.specs.Points.{point}
+use Rattle.plane.specs.declared.Point.{Point}
 use Rattle.plane.specs.Members.{◌∈◌}
 use Rattle.plane.proofs.Lists.{in_append, in_left, in_right, in_by_index, index_of_in}
 use Rattle.turns.specs.Reflection.{opposite}

@@ -10,7 +10,8 @@ use lib.Signed.{◌≤ℤ◌}
 use lib.ListN.{length, get_or, take, drop, length-drop, get_or-append}
 use lib.Seq.{length-take-le, get_or-take, get_or-drop, get_or-append-add}
 use Rattle.integers.proofs.Order.{≤_trans}
-use Rattle.plane.specs.Points.{Point, point}
+use Rattle.plane.specs.Points.{point}
+use Rattle.plane.specs.declared.Point.{Point}
 use Rattle.plane.proofs.Lists.{index_of_all, map_at}
 use Rattle.turns.specs.Keys.{Key, KeyOf, AllKeys, point_of}
 use Rattle.orders.specs.Order.{get}

@@ -6,7 +6,8 @@ use native.Mathlib.Omega.{arith}
 use lib.IntN.{ℤ, pos}
 use lib.ListN.{length, get_or, take}
 use lib.Seq.{length-take-le}
-use Rattle.plane.specs.Points.{Point, point}
+use Rattle.plane.specs.Points.{point}
+use Rattle.plane.specs.declared.Point.{Point}
 use Rattle.plane.proofs.Lists.{index_of_all, map_at}
 use Rattle.turns.specs.Keys.{KeyOf, point_of}
 use Rattle.orders.specs.Order.{get}

@@ -7,7 +7,8 @@ use native.Mathlib.Omega.{arith}
 use lib.IntN.{ℤ, pos}
 use lib.ListN.{length, get_or, take, drop, set, length-map, length-append, length-drop}
 use lib.Seq.{length-take-le, take-append-add, take-append-le, get_or-take, ext_get_or, get_or-set_same, get_or-set_other}
-use Rattle.plane.specs.Points.{Point, point}
+use Rattle.plane.specs.Points.{point}
+use Rattle.plane.specs.declared.Point.{Point}
 use Rattle.plane.specs.Members.{All}
 use Rattle.plane.proofs.Lists.{all_by_index, all_append, map_at}
 use Rattle.turns.specs.Keys.{Key, KeyOf, point_of}

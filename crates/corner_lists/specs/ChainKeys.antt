@@ -1,6 +1,6 @@
 -- The keys that a chain of points is made of. Definitions only.
 use Rattle.std.specs.Prelude.{◌≡◌, List, ℕ, ◌+◌, ◌≤◌, ◌<◌, length}
-use Rattle.plane.specs.Points.{Point}
+use Rattle.plane.specs.declared.Point.{Point}
 use Rattle.plane.specs.Members.{◌∈◌}
 use Rattle.turns.specs.Keys.{Key, point_of}
 use Rattle.turns.specs.Reflection.{reflected}

@@ -1,7 +1,7 @@
 -- Points as a list of keys. Definitions only.
 use Rattle.std.specs.Prelude.{◌≡◌, List, map, ℕ, length, take}
 use Rattle.plane.specs.Members.{All}
-use Rattle.plane.specs.Points.{Point}
+use Rattle.plane.specs.declared.Point.{Point}
 use Rattle.turns.specs.Keys.{Key, point_of}
 
 -- the first keys are those of the points, in their order

@@ -7,7 +7,7 @@ use lib.Signed.{◌≤ℤ◌, ◌<ℤ◌}
 use native.Mathlib.Omega.{arith}
 use Rattle.integers.proofs.Expr.{◌⊖◌, ◌⊗◌, #◌, ◌≼◌, ◌⟹◌}
 use Rattle.integers.proofs.Cert.{cert, hyp, ◌∵◌}
-use Rattle.plane.specs.Points.{Point}
+use Rattle.plane.specs.declared.Point.{Point}
 use Rattle.plane.proofs.Twins.{signed_areaᴱ, pt, fromᴱ, alongᴱ}
 use Rattle.rounds.specs.Boxes.{corner_of}
 use Rattle.rounds.specs.declared.Corner.TheVariants.{SouthWest, SouthEast, NorthEast, NorthWest}

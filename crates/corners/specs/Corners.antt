@@ -1,6 +1,7 @@
 -- A corner of a box of a list by the box's place. Definitions only.
 use Rattle.std.specs.Prelude.{List, ℕ, pos, get_or, ◌≤ℤ◌}
-use Rattle.plane.specs.Points.{Point, point, signed_area}
+use Rattle.plane.specs.Points.{point, signed_area}
+use Rattle.plane.specs.declared.Point.{Point}
 use Rattle.rounds.specs.Boxes.{Ordered, corner_of, corners_of}
 use Rattle.rounds.specs.declared.Box.{Box}
 use Rattle.rounds.specs.declared.Corner.{Corner}

@@ -1,46 +1,20 @@
 // The corners of a list's boxes, as keys.
 #![tactic(auto)]
 
-ghost use Rattle.std.specs.Prelude.{◌≡◌, ◌/◌, ◌<◌, length};
+ghost use Rattle.std.specs.Prelude.{◌/◌, ◌<◌, length};
 ghost use Rattle.turns.specs.Keys.{Key, KeyOf, point_of};
-ghost use Rattle.rounds.specs.Boxes.{boxes_of, corner_of, BoxList};
+ghost use Rattle.rounds.specs.Boxes.{boxes_of};
 ghost use Rattle.corners.specs.Corners.{nth_corner, Rightmost};
 
-use rounds::{Box, Corner};
-
-// The east of a corner of a box.
-fn corner_east(b: Box, corner: Corner) -> i32
-    ensures { result ≡ (corner_of corner b).east }
-{
-    match corner {
-        Corner::SouthWest => b.west,
-        Corner::SouthEast => b.east,
-        Corner::NorthEast => b.east,
-        Corner::NorthWest => b.west,
-    }
-}
-
-// The north of a corner of a box.
-fn corner_north(b: Box, corner: Corner) -> i32
-    ensures { result ≡ (corner_of corner b).north }
-{
-    match corner {
-        Corner::SouthWest => b.south,
-        Corner::SouthEast => b.south,
-        Corner::NorthEast => b.north,
-        Corner::NorthWest => b.north,
-    }
-}
+use boxes::Boxes;
+use rounds::Corner;
 
 // The key of that one corner of the box at place k, from 0.
-pub fn corner_key(boxes: &[i32], k: usize, corner: Corner) -> u32
-    requires { BoxList boxes.now × (k < length boxes.now / 4) }
-    ensures { KeyOf (nth_corner corner (boxes_of boxes.now) k) result }
+pub fn corner_key(boxes: Boxes, k: usize, corner: Corner) -> u32
+    requires { k < length boxes.numbers.now / 4 }
+    ensures { KeyOf (nth_corner corner (boxes_of boxes.entry.numbers.now) k) result }
 {
-    let b = boxes::box_at(boxes, k);
-    let east = corner_east(b, corner);
-    let north = corner_north(b, corner);
-    turns::key_of(east, north)
+    turns::key_of(boxes.at(k).corner(corner))
 }
 
 // The corner of any box that is furthest right of the way from one key's point to another's: the lowest one along the

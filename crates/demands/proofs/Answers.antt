@@ -2,7 +2,7 @@
 use mathlib.Core.Path.{◌≡◌, sym, ◌∙◌, ap}
 use mathlib.Core.List.{List}
 use lib.IntN.{ℤ}
-use Rattle.plane.specs.Points.{Point}
+use Rattle.plane.specs.declared.Point.{Point}
 use Rattle.verdicts.specs.Answers.{word_only}
 use Rattle.verdicts.specs.declared.Verdict.{Verdict}
 use Rattle.records.specs.Records.{edges_of}

@@ -8,7 +8,7 @@ use lib.Signed.{◌≤ℤ◌, ◌<ℤ◌}
 use Rattle.integers.proofs.Expr.{#◌, ◌⊕◌, ◌⊗◌, ◌≼◌, ◌≺◌, ◌≐◌, ◌⟹◌, bot}
 use Rattle.integers.proofs.Lin.{lin}
 use Rattle.integers.proofs.Cert.{cert, hyp, ◌∵◌}
-use Rattle.plane.specs.Points.{Point}
+use Rattle.plane.specs.declared.Point.{Point}
 use Rattle.plane.specs.Members.{All, ◌∈◌}
 use Rattle.plane.specs.Vectors.{from, along, Supported, Balanced, Separated}
 use Rattle.plane.specs.Polygons.{Polygon}

@@ -7,7 +7,7 @@ use lib.Signed.{◌≤ℤ◌}
 use Rattle.integers.proofs.Expr.{◌⊗◌, #◌, ◌≼◌, ◌⟹◌}
 use Rattle.integers.proofs.Cert.{cert, hyp, ◌⊞◌, ◌⊠◌, ◌∵◌}
 use Rattle.integers.proofs.Order.{pos_nn}
-use Rattle.plane.specs.Points.{Point}
+use Rattle.plane.specs.declared.Point.{Point}
 use Rattle.rounds.specs.Boxes.{boxes_of}
 use Rattle.rounds.specs.Picks.{InBox, Each, Pick}
 use Rattle.rounds.specs.Refusals.{Fault, verdict_fault}

@@ -8,7 +8,8 @@ use lib.Signed.{◌≤ℤ◌, ◌<ℤ◌}
 use Rattle.integers.proofs.Expr.{◌⊕◌, ◌⊖◌, ◌⊗◌, ⊝◌, #◌, ◌≼◌, ◌≺◌, ◌⟹◌}
 use Rattle.integers.proofs.Lin.{lin}
 use Rattle.integers.proofs.Order.{lt_or_ge}
-use Rattle.plane.specs.Points.{Point, signed_area}
+use Rattle.plane.specs.Points.{signed_area}
+use Rattle.plane.specs.declared.Point.{Point}
 use Rattle.plane.specs.Members.{All, none, ◌&◌, ◌∈◌, here, there}
 use Rattle.plane.specs.Vectors.{from, Balanced, Separated}
 use Rattle.plane.proofs.Combos.{separated_not_balanced}

@@ -1,6 +1,6 @@
 -- Equal answers: records and the C structs answer as the flat list's call does, reasons included. Definitions only.
 use Rattle.std.specs.Prelude.{◌≡◌, List, ℤ}
-use Rattle.plane.specs.Points.{Point}
+use Rattle.plane.specs.declared.Point.{Point}
 use Rattle.rounds.specs.declared.Box.{Box}
 use Rattle.verdicts.specs.Verdicts.{VerdictIs, word_reply, verdict_on}
 use Rattle.verdicts.specs.Answers.{verdict_of, word_only}

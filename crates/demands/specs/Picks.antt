@@ -1,6 +1,6 @@
 -- The third demand, of every call that gives a word: what a verdict and a word say of every pick, and the picks that reasons describe. Definitions only.
 use Rattle.std.specs.Prelude.{ℕ, ◌+◌, ◌↔◌, ◌≡◌, List, [], ◌∷◌, ◌++◌, ℤ, length}
-use Rattle.plane.specs.Points.{Point}
+use Rattle.plane.specs.declared.Point.{Point}
 use Rattle.rounds.specs.Boxes.{boxes_of, corners_of}
 use Rattle.rounds.specs.Picks.{Pick}
 use Rattle.rounds.specs.Reasons.{Reasoned, Chosen}

@@ -1,6 +1,6 @@
 -- The second demand, of the polygons: those of the partial convex hull map (docs/SCOPE.md 2), and that verdicts follow its sure interior and exterior. Definitions only.
 use Rattle.std.specs.Prelude.{◌↔◌, ◌≡◌, List, map, ℤ, length}
-use Rattle.plane.specs.Points.{Point}
+use Rattle.plane.specs.declared.Point.{Point}
 use Rattle.plane.specs.Vectors.{from, Supported, Balanced}
 use Rattle.rounds.specs.Refusals.{Fault, area_fault, verdict_fault}
 use Rattle.rounds.specs.Replies.{result}

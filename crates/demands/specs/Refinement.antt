@@ -1,6 +1,6 @@
 -- The order of refinement (docs/SCOPE.md 2.4): boxes that become smaller, as doors become known. Definitions only.
 use Rattle.std.specs.Prelude.{◌≡◌, List, [], ◌∷◌, ℤ, ◌≤ℤ◌}
-use Rattle.plane.specs.Points.{Point}
+use Rattle.plane.specs.declared.Point.{Point}
 use Rattle.rounds.specs.Boxes.{boxes_of}
 use Rattle.rounds.specs.Refusals.{Fault, verdict_fault}
 use Rattle.rounds.specs.Replies.{result}

@@ -1,6 +1,7 @@
 -- The starred examples (docs/SCOPE.md 9.1), as one joint fact about the definitions: the rounds are accepted, the reply is the word, and the word means what it says. Definitions only.
 use Rattle.std.specs.Prelude.{ℕ, List, [], ◌∷◌, map, pos, ◌≡◌}
-use Rattle.plane.specs.Points.{Point, point}
+use Rattle.plane.specs.Points.{point}
+use Rattle.plane.specs.declared.Point.{Point}
 use Rattle.plane.specs.Members.{◌∈◌}
 use Rattle.plane.specs.Vectors.{from, Balanced}
 use Rattle.plane.specs.Polygons.{AllRight, Polygon}

@@ -1,7 +1,7 @@
 -- What the passes over a file find and leave. Definitions only.
 use Rattle.std.specs.Prelude.{ℕ, suc, ◌-◌, ◌*◌, ◌≤◌, true, ◌≡◌, ℤ, length, take, drop}
 use mathlib.Core.List.{List, flat_map}
-use Rattle.plane.specs.Points.{Point}
+use Rattle.plane.specs.declared.Point.{Point}
 use Rattle.rounds.specs.Refusals.{Fault, none, fault}
 use Rattle.formats.specs.Content.{Content, read_from, content_of}
 use Rattle.formats.specs.Promises.{edges, coordinates, counts_of}

@@ -8,10 +8,11 @@ use lib.ListN.{length, drop, length-drop}
 use mir.Syntax.{w32}
 use mir.Val.{SFits, to_z, of_z}
 use mir.ValLaws.{to_z-of_z}
-use Rattle.plane.specs.Points.{Point, point}
+use Rattle.plane.specs.Points.{point}
+use Rattle.plane.specs.declared.Point.{Point}
 use Rattle.rounds.specs.Boxes.{boxes_of, box_at, plugs_of}
 use Rattle.rounds.specs.declared.Box.{Box}
-use Rattle.rounds.proofs.Rows.{plug_at}
+use Rattle.rounds.specs.Boxes.{plug_at}
 use Rattle.integers.proofs.Parts.{drop_two, drop_four}
 use Rattle.formats.specs.Format.{box_length, plug_length, four_bytes, number_bytes, box_record, plug_record}
 use Rattle.file_records.specs.Records.{over}

@@ -10,7 +10,7 @@ use lib.ListN.{length}
 use mir.Syntax.{w32}
 use mir.Val.{SFits}
 use Rattle.integers.proofs.Machine.{fits}
-use Rattle.plane.specs.Points.{Point}
+use Rattle.plane.specs.declared.Point.{Point}
 use Rattle.plane.specs.Members.{All, ◌&◌}
 use Rattle.rounds.specs.Boxes.{BoxInSpan, boxes_of, plugs_of}
 use Rattle.rounds.specs.declared.Box.{Box}

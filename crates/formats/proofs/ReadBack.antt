@@ -12,7 +12,7 @@ use lib.Seq.{drop-drop, drop_at, get_or-drop}
 use mir.Syntax.{w32}
 use mir.Val.{SFits, of_z}
 use mir.ValLaws.{to_z-of_z}
-use Rattle.plane.specs.Points.{Point}
+use Rattle.plane.specs.declared.Point.{Point}
 use Rattle.plane.specs.Members.{All, ◌&◌}
 use Rattle.rounds.specs.declared.Box.{Box}
 use Rattle.rounds.specs.Refusals.{none}

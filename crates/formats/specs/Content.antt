@@ -1,6 +1,6 @@
 -- What a round file holds, and its fault of form, 8 to 11 (docs/SCOPE.md 6.4). Definitions only.
 use Rattle.std.specs.Prelude.{ℕ, suc, zero, ◌+◌, Bool, true, false, List, [], ◌∷◌, ltb, length}
-use Rattle.plane.specs.Points.{Point}
+use Rattle.plane.specs.declared.Point.{Point}
 use Rattle.rounds.specs.declared.Box.{Box}
 use Rattle.rounds.specs.declared.Cause.TheVariants as Cause
 use Rattle.rounds.specs.Refusals.{Fault, none, fault, when, ◌or_else◌}

@@ -1,7 +1,7 @@
 -- What the reader and the writer promise: the reply, and every number or byte of each lent buffer at exit, refusals too. Definitions only.
 use Rattle.std.specs.Prelude.{ℕ, ◌+◌, ◌*◌, ◌/◌, ◌≡◌, ℤ, length}
 use mathlib.Core.List.{List, [], ◌∷◌, flat_map}
-use Rattle.plane.specs.Points.{Point}
+use Rattle.plane.specs.declared.Point.{Point}
 use Rattle.rounds.specs.Boxes.{boxes_of, plugs_of}
 use Rattle.rounds.specs.declared.Box.{Box}
 use Rattle.rounds.specs.Refusals.{Fault, read_fault, write_fault}

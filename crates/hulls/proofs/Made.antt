@@ -6,7 +6,7 @@ use native.Mathlib.Omega.{arith}
 use mathlib.Core.List.{List, map}
 use lib.ListN.{length, take}
 use lib.Seq.{length-take-le, get_or-take}
-use Rattle.plane.specs.Points.{Point}
+use Rattle.plane.specs.declared.Point.{Point}
 use Rattle.plane.specs.Members.{◌∈◌}
 use Rattle.plane.proofs.Outline.{outline_polygon}
 use Rattle.plane.proofs.Dropping.{Inner as InnerPoint, same_polygon}

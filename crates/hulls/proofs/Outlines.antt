@@ -7,7 +7,8 @@ use lib.IntN.{pos}
 use lib.Signed.{◌<ℤ◌}
 use lib.ListN.{length, get_or, length-map, get_or-map}
 use Rattle.integers.proofs.Order.{≤-antisym}
-use Rattle.plane.specs.Points.{Point, signed_area}
+use Rattle.plane.specs.Points.{signed_area}
+use Rattle.plane.specs.declared.Point.{Point}
 use Rattle.plane.specs.Members.{All, ◌∈◌}
 use Rattle.plane.specs.Polygons.{Distinct, AllRight, Clockwise}
 use Rattle.plane.proofs.Lists.{all_map, all_by_index, in_map, in_by_index, index_of_in}

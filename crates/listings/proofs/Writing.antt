@@ -6,7 +6,7 @@ use native.Mathlib.Omega.{arith}
 use lib.IntN.{ℤ, pos}
 use lib.ListN.{length, get_or, take, drop, set, length-append, length-replicate}
 use lib.Seq.{length-take-le, take_all, take_at, drop-drop, drop-append-add}
-use Rattle.plane.specs.Points.{Point}
+use Rattle.plane.specs.declared.Point.{Point}
 use Rattle.integers.proofs.Parts.{over_more, then_write}
 use Rattle.listings.specs.Listings.{flat, zeros, over_front, listing}
 

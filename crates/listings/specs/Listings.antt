@@ -1,6 +1,6 @@
 -- Vertices in a lent buffer of numbers. Definitions only.
 use Rattle.std.specs.Prelude.{List, [], ◌∷◌, ◌++◌, ℕ, ◌-◌, ◌*◌, ◌/◌, ℤ, pos, length, drop, replicate}
-use Rattle.plane.specs.Points.{Point}
+use Rattle.plane.specs.declared.Point.{Point}
 use Rattle.rounds.specs.Refusals.{none}
 use Rattle.rounds.specs.Replies.{buffer_under}
 

@@ -1,7 +1,7 @@
 -- The three answers exclude each other, so that a place is one at most. Assumes nothing.
 use mathlib.Core.Path.{◌≡◌, refl}
 use mathlib.Core.List.{List}
-use Rattle.plane.specs.Points.{Point}
+use Rattle.plane.specs.declared.Point.{Point}
 use Rattle.plane.proofs.Combos.{separated_not_balanced}
 use Rattle.plane.proofs.Alternative.{separated_supported}
 use Rattle.locations.specs.Places.{PlaceSays}

@@ -13,7 +13,8 @@ use Rattle.integers.proofs.Expr.{◌⊕◌, ⊝◌, #◌, ◌≼◌, ◌≺◌, 
 use Rattle.integers.proofs.Lin.{lin}
 use Rattle.integers.proofs.Cert.{cert, hyp, eqn, ◌⊞◌, ◌⊠◌, ◌∵◌, ◌∵◌÷◌}
 use Rattle.integers.proofs.Order.{lt_or_ge, ≤-antisym, ≡→≤}
-use Rattle.plane.specs.Points.{Point, signed_area}
+use Rattle.plane.specs.Points.{signed_area}
+use Rattle.plane.specs.declared.Point.{Point}
 use Rattle.plane.specs.Members.{All, none, ◌&◌, ◌∈◌}
 use Rattle.plane.specs.Vectors.{from, Supported, Balanced}
 use Rattle.plane.specs.Polygons.{Polygon}

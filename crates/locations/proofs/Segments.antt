@@ -12,7 +12,8 @@ use Rattle.integers.proofs.Lin.{lin}
 use Rattle.integers.proofs.Ring.{ring}
 use Rattle.integers.proofs.Cert.{cert, hyp, eqn, sq, ◌⊞◌, ◌⊠◌, ◌∵◌}
 use Rattle.integers.proofs.Order.{lt_or_ge, ≡→≤, compareℤ, Cmp, is_less, is_same, is_more}
-use Rattle.plane.specs.Points.{Point, signed_area, dot_product}
+use Rattle.plane.specs.Points.{signed_area, dot_product}
+use Rattle.plane.specs.declared.Point.{Point}
 use Rattle.plane.specs.Members.{All, none, ◌&◌, ◌∈◌, here}
 use Rattle.plane.specs.Vectors.{from, along, Supported, Separated}
 use Rattle.plane.proofs.Twins.{signed_areaᴱ, pt, fromᴱ, alongᴱ}

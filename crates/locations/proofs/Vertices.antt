@@ -11,7 +11,8 @@ use Rattle.integers.proofs.Expr.{#◌, ◌≐◌, ◌≼◌, ◌⟹◌}
 use Rattle.integers.proofs.Cert.{cert, hyp, ◌∵◌}
 use Rattle.integers.proofs.Ring.{ring}
 use Rattle.integers.proofs.Order.{≡→≤, ≤-antisym, not-≤}
-use Rattle.plane.specs.Points.{Point, signed_area}
+use Rattle.plane.specs.Points.{signed_area}
+use Rattle.plane.specs.declared.Point.{Point}
 use Rattle.plane.specs.Members.{All, ◌∈◌}
 use Rattle.plane.specs.Polygons.{AllRight, Extreme, Distinct, Polygon}
 use Rattle.plane.proofs.Twins.{signed_areaᴱ, pt}

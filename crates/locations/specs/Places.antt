@@ -1,6 +1,6 @@
 -- Where a plug lies with respect to the points whose polygon is given by its vertices' keys: what the call asks, and what each answer says. Definitions only.
 use Rattle.std.specs.Prelude.{ℕ, ◌≤◌, List, map, length}
-use Rattle.plane.specs.Points.{Point}
+use Rattle.plane.specs.declared.Point.{Point}
 use Rattle.plane.specs.Members.{All}
 use Rattle.plane.specs.Vectors.{from, Supported, Balanced, Separated}
 use Rattle.plane.specs.Polygons.{Polygon}

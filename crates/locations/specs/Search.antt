@@ -1,6 +1,7 @@
 -- What the parts of the search promise each other; callers do not see these. Definitions only.
 use Rattle.std.specs.Prelude.{ℕ, ◌+◌, ◌-◌, ◌≤◌, ◌<◌, ◌≡◌, List, [], ◌∷◌, pos, ◌≤ℤ◌, length, get_or}
-use Rattle.plane.specs.Points.{Point, signed_area}
+use Rattle.plane.specs.Points.{signed_area}
+use Rattle.plane.specs.declared.Point.{Point}
 use Rattle.turns.specs.Keys.{point_of}
 use Rattle.locations.specs.Places.{KeyPolygon, PlaceOf}
 use Rattle.locations.specs.declared.Place.{Place}

@@ -7,7 +7,8 @@ use lib.IntN.{ℤ, pos}
 use lib.Signed.{◌≤ℤ◌}
 use lib.ListN.{length, get_or, take, drop, length-map, length-append, length-drop, get_or-append}
 use lib.Seq.{length-take-le, get_or-take}
-use Rattle.plane.specs.Points.{Point, point, InSpan}
+use Rattle.plane.specs.Points.{point, InSpan}
+use Rattle.plane.specs.declared.Point.{Point}
 use Rattle.plane.specs.Members.{All, none, ◌&◌, ◌∈◌}
 use Rattle.plane.specs.Polygons.{Polygon}
 use Rattle.plane.proofs.Lists.{all_of, all_by_index, index_of_all, in_by_index, index_of_in, map_at}

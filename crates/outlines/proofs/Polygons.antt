@@ -7,7 +7,7 @@ use lib.IntN.{ℤ}
 use lib.ListN.{length, get_or, take, length-append}
 use lib.Seq.{length-take-le, get_or-take}
 use Rattle.plane.specs.Members.{All}
-use Rattle.plane.specs.Points.{Point}
+use Rattle.plane.specs.declared.Point.{Point}
 use Rattle.plane.specs.Polygons.{Polygon}
 use Rattle.plane.proofs.Lists.{all_by_index, index_of_all}
 use Rattle.turns.specs.Keys.{Key, point_of, AllKeys}

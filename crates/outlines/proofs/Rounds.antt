@@ -7,7 +7,7 @@ use native.Mathlib.Omega.{arith}
 use lib.ListN.{length, take, drop, length-drop, drop_of_length-le}
 use lib.Seq.{length-take-le, take-take, take_at, drop_at}
 use Rattle.plane.specs.Members.{All}
-use Rattle.plane.specs.Points.{Point}
+use Rattle.plane.specs.declared.Point.{Point}
 use Rattle.plane.specs.Polygons.{Polygon}
 use Rattle.turns.specs.Keys.{Key, point_of}
 use Rattle.rounds.specs.Boxes.{corners_of, all_corners}

@@ -1,7 +1,7 @@
 -- The polygon of some points as the keys of its vertices, and polygons one behind another. Definitions only.
 use Rattle.std.specs.Prelude.{◌≡◌, List, map, ℕ, ◌+◌, ◌≤◌, length, take, drop}
 use Rattle.plane.specs.Members.{All}
-use Rattle.plane.specs.Points.{Point}
+use Rattle.plane.specs.declared.Point.{Point}
 use Rattle.plane.specs.Polygons.{Polygon}
 use Rattle.turns.specs.Keys.{Key, point_of}
 

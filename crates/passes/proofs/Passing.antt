@@ -11,7 +11,8 @@ use lib.Seq.{take-suc}
 use Rattle.integers.proofs.Expr.{#◌, ◌≺◌, ◌⟹◌, bot}
 use Rattle.integers.proofs.Cert.{cert, hyp, ◌∵◌}
 use Rattle.integers.proofs.Order.{<→≤}
-use Rattle.plane.specs.Points.{Point, point, signed_area}
+use Rattle.plane.specs.Points.{point, signed_area}
+use Rattle.plane.specs.declared.Point.{Point}
 use Rattle.plane.specs.Members.{All, none, ◌&◌}
 use Rattle.plane.proofs.Lists.{all_append, map_at}
 use Rattle.plane.proofs.Twins.{signed_areaᴱ, pt}

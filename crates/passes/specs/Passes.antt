@@ -1,6 +1,6 @@
 -- What is known of the points so far, seen from a plug, and boxes whose corners leave it as it is. Definitions only.
 use Rattle.std.specs.Prelude.{◌≡◌, List, [], ◌∷◌, ◌++◌, map, ℕ, ◌≤◌, pos, length, get_or, take}
-use Rattle.plane.specs.Points.{Point}
+use Rattle.plane.specs.declared.Point.{Point}
 use Rattle.plane.specs.Members.{All}
 use Rattle.plane.specs.Vectors.{from, Supported}
 use Rattle.rounds.specs.Boxes.{box, corner_of}

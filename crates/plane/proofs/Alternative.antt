@@ -13,7 +13,7 @@ use Rattle.integers.proofs.Lin.{lin}
 use Rattle.integers.proofs.Ring.{ring}
 use Rattle.integers.proofs.Cert.{cert, hyp, eqn, num, less, ◌⊞◌, ◌⊠◌, ◌∵◌}
 use Rattle.integers.proofs.Order.{lt_or_ge, <→≤, ≤-antisym, add_nn}
-use Rattle.plane.specs.Points.{Point}
+use Rattle.plane.specs.declared.Point.{Point}
 use Rattle.plane.specs.Members.{All, none, ◌&◌, ◌∈◌, here, there}
 use Rattle.plane.specs.Vectors.{along, Supported, Balanced, Separated}
 use Rattle.plane.proofs.Lists.{first, all_at, all_imp, all_both}

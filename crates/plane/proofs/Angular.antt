@@ -7,7 +7,7 @@ use lib.Signed.{◌≤ℤ◌, ◌<ℤ◌}
 use Rattle.integers.proofs.Expr.{#◌, ◌≐◌, ◌≼◌, ◌≺◌, ◌⟹◌, bot}
 use Rattle.integers.proofs.Cert.{cert, hyp, ◌⊞◌, ◌⊠◌, eqn, ◌∵◌, ◌∵◌÷◌}
 use Rattle.integers.proofs.Order.{<→≤, ≡→≤}
-use Rattle.plane.specs.Points.{Point}
+use Rattle.plane.specs.declared.Point.{Point}
 use Rattle.plane.proofs.Twins.{pt, det, detᴱ}
 
 -- u points up in the order of points: east, or straight north

@@ -10,7 +10,8 @@ use Rattle.integers.proofs.Expr.{◌⊖◌, ⊝◌, #◌, ◌≼◌, ◌≺◌, 
 use Rattle.integers.proofs.Lin.{lin}
 use Rattle.integers.proofs.Cert.{cert, hyp, eqn, ◌⊞◌, ◌⊠◌, ◌∵◌}
 use Rattle.integers.proofs.Order.{lt_or_ge, ≤-antisym}
-use Rattle.plane.specs.Points.{Point, signed_area, outward_east, outward_north}
+use Rattle.plane.specs.Points.{signed_area, outward_east, outward_north}
+use Rattle.plane.specs.declared.Point.{Point}
 use Rattle.plane.specs.Members.{All, ◌∈◌}
 use Rattle.plane.specs.Vectors.{along}
 use Rattle.plane.specs.Polygons.{AllRight, Steps, Polygon}

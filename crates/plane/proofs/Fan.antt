@@ -14,7 +14,8 @@ use Rattle.integers.proofs.Lin.{lin}
 use Rattle.integers.proofs.Ring.{ring}
 use Rattle.integers.proofs.Cert.{cert, hyp, ◌⊞◌, ◌∵◌}
 use Rattle.integers.proofs.Order.{<→≤}
-use Rattle.plane.specs.Points.{Point, signed_area}
+use Rattle.plane.specs.Points.{signed_area}
+use Rattle.plane.specs.declared.Point.{Point}
 use Rattle.plane.specs.Members.{◌∈◌, here, there}
 use Rattle.plane.specs.Vectors.{from, Balanced}
 use Rattle.plane.specs.Polygons.{Steps, Around}

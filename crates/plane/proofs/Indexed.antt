@@ -6,7 +6,8 @@ use native.Mathlib.Omega.{arith}
 use lib.IntN.{pos}
 use lib.Signed.{◌<ℤ◌}
 use lib.ListN.{length, get_or}
-use Rattle.plane.specs.Points.{Point, signed_area}
+use Rattle.plane.specs.Points.{signed_area}
+use Rattle.plane.specs.declared.Point.{Point}
 use Rattle.plane.specs.Members.{◌∈◌}
 use Rattle.plane.specs.Polygons.{Distinct, Steps, Around}
 use Rattle.plane.proofs.Lists.{index_of_in}

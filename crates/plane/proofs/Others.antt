@@ -8,7 +8,7 @@ use lib.IntN.{pos}
 use lib.Dec.{lt→ltb}
 use lib.ListN.{length}
 use Rattle.integers.proofs.Order.{pos_nn}
-use Rattle.plane.specs.Points.{Point}
+use Rattle.plane.specs.declared.Point.{Point}
 use Rattle.plane.specs.Members.{All, none, ◌&◌, ◌∈◌, here, there}
 use Rattle.plane.specs.Vectors.{from, total, weighted, Balanced}
 use Rattle.plane.specs.Polygons.{Other, Extreme}

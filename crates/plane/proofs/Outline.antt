@@ -1,7 +1,7 @@
 -- The outline of some points: what a hull's making promises of its listing, from which the polygon follows, and with which a verdict goes on. Assumes nothing.
 use mathlib.Core.Path.{◌≡◌}
 use mathlib.Core.List.{List, [], ◌∷◌}
-use Rattle.plane.specs.Points.{Point}
+use Rattle.plane.specs.declared.Point.{Point}
 use Rattle.plane.specs.Members.{All, ◌∈◌}
 use Rattle.plane.specs.Polygons.{Distinct, Clockwise, Polygon}
 use Rattle.plane.proofs.PolygonFacts.{TurnsRight, Between, polygon, polygon₁, polygon₂}

@@ -11,7 +11,8 @@ use Rattle.integers.proofs.Expr.{◌⊕◌, ◌⊖◌, ◌⊗◌, ⊝◌, #◌, 
 use Rattle.integers.proofs.Lin.{lin}
 use Rattle.integers.proofs.Cert.{cert, hyp, eqn, ◌⊞◌, ◌∵◌, ◌∵◌÷◌}
 use Rattle.integers.proofs.Order.{≤-antisym, not-≤}
-use Rattle.plane.specs.Points.{Point, signed_area, outward_east, outward_north, dot_product}
+use Rattle.plane.specs.Points.{signed_area, outward_east, outward_north, dot_product}
+use Rattle.plane.specs.declared.Point.{Point}
 use Rattle.plane.specs.Members.{All, none, ◌&◌, ◌∈◌, here, there}
 use Rattle.plane.specs.Vectors.{from, along, Balanced}
 use Rattle.plane.specs.Polygons.{AllRight, Other, Extreme, Distinct, Steps, Clockwise, Polygon}

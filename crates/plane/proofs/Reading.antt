@@ -11,7 +11,8 @@ use Rattle.integers.proofs.Expr.{◌⊕◌, ◌⊖◌, ◌⊗◌, ⊝◌, #◌, 
 use Rattle.integers.proofs.Lin.{lin}
 use Rattle.integers.proofs.Cert.{cert, hyp, num, eqn, sq, ◌⊞◌, ◌∵◌, ◌∵◌÷◌}
 use Rattle.integers.proofs.Order.{lt_or_ge, <→≤, ≡→≤, ≤-antisym, ≤_trans, not-≤, compareℤ, Cmp, is_less, is_same, is_more}
-use Rattle.plane.specs.Points.{Point, signed_area, outward_east, outward_north, dot_product}
+use Rattle.plane.specs.Points.{signed_area, outward_east, outward_north, dot_product}
+use Rattle.plane.specs.declared.Point.{Point}
 use Rattle.plane.specs.Members.{All, none, ◌&◌, ◌∈◌, here, there}
 use Rattle.plane.specs.Vectors.{from, along, Separated}
 use Rattle.plane.specs.Polygons.{AllRight, Extreme, Distinct, Steps, Clockwise, Polygon}

@@ -8,7 +8,8 @@ use lib.Signed.{◌≤ℤ◌, ◌<ℤ◌}
 use Rattle.integers.proofs.Expr.{◌⊕◌, ◌⊖◌, ◌⊗◌, ⊝◌, #◌, ◌≼◌, ◌≺◌, ◌≐◌, ◌⟹◌, PtE, E}
 use Rattle.integers.proofs.Lin.{lin}
 use Rattle.integers.proofs.Cert.{cert, hyp, ◌⊞◌, ◌∵◌}
-use Rattle.plane.specs.Points.{Point, signed_area, outward_east, outward_north}
+use Rattle.plane.specs.Points.{signed_area, outward_east, outward_north}
+use Rattle.plane.specs.declared.Point.{Point}
 use Rattle.plane.specs.Members.{All}
 use Rattle.plane.specs.Vectors.{from, along, Supported, Balanced, Separated}
 use Rattle.plane.specs.Polygons.{AllRight}

@@ -10,7 +10,7 @@ use Rattle.integers.proofs.Expr.{◌⊕◌, ◌⊗◌, ⊝◌, #◌, ◌≼◌, 
 use Rattle.integers.proofs.Lin.{lin}
 use Rattle.integers.proofs.Cert.{cert, hyp, num, eqn, ◌⊞◌, ◌⊠◌, ◌∵◌, ◌∵◌÷◌}
 use Rattle.integers.proofs.Order.{lt_or_ge, <→≤, ≤-antisym, mul_zero, ≤-dec}
-use Rattle.plane.specs.Points.{Point}
+use Rattle.plane.specs.declared.Point.{Point}
 use Rattle.plane.specs.Members.{All, none, ◌&◌, ◌∈◌, here, there}
 use Rattle.plane.specs.Vectors.{along, Supported}
 use Rattle.plane.proofs.Lists.{first, rest, all_imp, all_both}

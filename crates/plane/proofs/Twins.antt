@@ -1,7 +1,7 @@
 -- The definitions of specs/ on the solvers' expressions (with ᴱ), a point as the solvers take it, and the determinant of two vectors. Definitions only.
 use lib.IntN.{ℤ, ◌-ℤ◌, ◌*ℤ◌}
 use Rattle.integers.proofs.Expr.{E, ◌⊕◌, ◌⊖◌, ◌⊗◌, #◌, Pt, PtE}
-use Rattle.plane.specs.Points.{Point}
+use Rattle.plane.specs.declared.Point.{Point}
 
 -- a point as the solvers take it
 abbrev pub pt : Point → Pt

@@ -12,7 +12,7 @@ use Rattle.integers.proofs.Lin.{lin}
 use Rattle.integers.proofs.Rules.{zrules}
 use Rattle.integers.proofs.Cert.{cert, hyp, ◌∵◌}
 use Rattle.integers.proofs.Order.{≤-antisym}
-use Rattle.plane.specs.Points.{Point}
+use Rattle.plane.specs.declared.Point.{Point}
 use Rattle.plane.specs.Members.{All, none, ◌&◌, ◌∈◌, here, there}
 use Rattle.plane.specs.Polygons.{AllRight, Extreme, Distinct, Steps, Clockwise, Polygon}
 use Rattle.plane.proofs.Twins.{signed_areaᴱ, pt}

@@ -8,7 +8,8 @@ use lib.Signed.{◌≤ℤ◌, ◌<ℤ◌}
 use Rattle.integers.proofs.Expr.{◌⊕◌, ◌⊖◌, ◌⊗◌, #◌, ◌≼◌, ◌≺◌, ◌≐◌, ◌⟹◌, bot}
 use Rattle.integers.proofs.Cert.{cert, hyp, eqn, ◌⊞◌, ◌⊠◌, ◌∵◌}
 use Rattle.integers.proofs.Order.{sq_nn, lt_or_ge, not-≤, ≤-antisym, add_pos_nn, add_nn_pos, mul_pos, mul_neg_neg, compareℤ, Cmp, is_less, is_same, is_more}
-use Rattle.plane.specs.Points.{Point, signed_area}
+use Rattle.plane.specs.Points.{signed_area}
+use Rattle.plane.specs.declared.Point.{Point}
 use Rattle.plane.specs.Members.{All, none, ◌&◌, ◌∈◌, here, there}
 use Rattle.plane.specs.Vectors.{from, along, Supported}
 use Rattle.plane.specs.Polygons.{Steps, Around}

@@ -1,11 +1,7 @@
 -- Points in whole metres, and the turn from one to the next. Definitions only.
 use Rattle.std.specs.Prelude.{ℕ, ℤ, neg_ℤ, ◌+ℤ◌, ◌-ℤ◌, ◌*ℤ◌}
 use Rattle.integers.specs.Upto.{Upto}
-
--- a point, east then north; also a vector
-pub record Point : Type 0 where
-  pub east : ℤ
-  pub north : ℤ
+use Rattle.plane.specs.declared.Point.{Point}
 
 -- the point at an east and a north
 abbrev pub point : ℤ → ℤ → Point

@@ -1,7 +1,8 @@
 -- Extreme points, and what makes a listing the polygon of some points, the start being open (docs/SCOPE.md 3.2, 3.3). Definitions only.
 use Rattle.std.specs.Prelude.{◌≤◌, ◌≡◌, List, [], ◌∷◌, map, pos, ◌≤ℤ◌, length}
 use Rattle.plane.specs.Members.{All, ◌∈◌}
-use Rattle.plane.specs.Points.{Point, signed_area}
+use Rattle.plane.specs.Points.{signed_area}
+use Rattle.plane.specs.declared.Point.{Point}
 use Rattle.plane.specs.Vectors.{from, Balanced}
 
 -- q is one of the points, and not p

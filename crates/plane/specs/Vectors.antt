@@ -1,7 +1,7 @@
 -- Vectors from a plug to points over a denominator; what it is for the plug to lie in the hull of the points, or not strictly inside it. Definitions only.
 use Rattle.std.specs.Prelude.{ℕ, ◌+◌, ◌<◌, ◌≡◌, List, [], ◌∷◌, ℤ, pos, ◌+ℤ◌, ◌-ℤ◌, ◌*ℤ◌, ◌≤ℤ◌, ◌<ℤ◌, length}
 use Rattle.plane.specs.Members.{All}
-use Rattle.plane.specs.Points.{Point}
+use Rattle.plane.specs.declared.Point.{Point}
 
 -- the vector from the plug p to the point q, whose coordinates are numerators over d; the vector's too
 abbrev pub from : ℕ → Point → Point → Point

@@ -7,14 +7,14 @@ use native.Mathlib.Omega.{arith}
 use lib.IntN.{ℤ, pos}
 use lib.ListN.{length, take, drop, length-append, length-drop}
 use Rattle.integers.proofs.Parts.{drop_two, tail_is}
-use Rattle.plane.specs.Points.{Point}
+use Rattle.plane.specs.declared.Point.{Point}
 use Rattle.plane.specs.Members.{All}
 use Rattle.rounds.specs.Boxes.{Ordered, plugs_of}
 use Rattle.rounds.specs.declared.Box.{Box}
 use Rattle.rounds.specs.Replies.{Reply, result, refused}
 use Rattle.rounds.specs.declared.Word.{Word}
 use Rattle.rounds.specs.declared.Word.TheVariants.{Inside, Outside, Undecided}
-use Rattle.rounds.proofs.Rows.{plug_at}
+use Rattle.rounds.specs.Boxes.{plug_at}
 use Rattle.outlines.specs.RoundPolygons.{RoundPolygons}
 use Rattle.outlines.specs.declared.RoundCounts.{RoundCounts}
 use Rattle.verdicts.specs.Verdicts.{word_reply}

@@ -1,6 +1,6 @@
 -- What the steps of the plugs' lines ask and leave. Definitions only.
 use Rattle.std.specs.Prelude.{ℕ, ◌+◌, ◌*◌, ◌/◌, ◌≤◌, List, ℤ, length}
-use Rattle.plane.specs.Points.{Point}
+use Rattle.plane.specs.declared.Point.{Point}
 use Rattle.plane.specs.Members.{All}
 use Rattle.rounds.specs.Boxes.{Ordered, plugs_of}
 use Rattle.rounds.specs.declared.Box.{Box}

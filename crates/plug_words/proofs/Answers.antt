@@ -3,7 +3,7 @@ use mathlib.Core.Path.{◌≡◌, sym, ◌∙◌, ap}
 use mathlib.Core.List.{List}
 use Prim.Native.Nat.{ℕ}
 use lib.IntN.{ℤ}
-use Rattle.plane.specs.Points.{Point}
+use Rattle.plane.specs.declared.Point.{Point}
 use Rattle.turns.specs.Keys.{point_of}
 use Rattle.rounds.specs.Boxes.{boxes_of}
 use Rattle.rounds.specs.Refusals.{none, ◌or_else◌, box_list_fault, plug_fault, verdict_fault, refusal_fault}

@@ -1,6 +1,6 @@
 -- The word of a plug against the polygons of a round, and boxes in which every plug is inside. Definitions only.
 use Rattle.std.specs.Prelude.{ℕ, ◌≡◌, List}
-use Rattle.plane.specs.Points.{Point}
+use Rattle.plane.specs.declared.Point.{Point}
 use Rattle.plane.specs.Members.{All}
 use Rattle.rounds.specs.Boxes.{Ordered}
 use Rattle.rounds.specs.Picks.{InBox}

@@ -1,6 +1,6 @@
 -- Polygons written into a lent buffer, one behind another. Definitions only.
 use Rattle.std.specs.Prelude.{◌≡◌, List, ◌++◌, ℕ, ◌≤◌, ℤ, length, take, drop}
-use Rattle.plane.specs.Points.{Point}
+use Rattle.plane.specs.declared.Point.{Point}
 use Rattle.plane.specs.Polygons.{Polygon}
 use Rattle.rounds.specs.Boxes.{corners_of}
 use Rattle.rounds.specs.declared.Box.{Box}

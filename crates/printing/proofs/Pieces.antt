@@ -5,7 +5,7 @@ use Prim.Native.Nat.{ℕ, ◌+◌, ◌-◌, ◌*◌, ◌≤◌, min}
 use native.Mathlib.Omega.{arith}
 use lib.ListN.{length, take, drop, length-drop}
 use Rattle.integers.proofs.Parts.{tail_is}
-use Rattle.plane.specs.Points.{Point}
+use Rattle.plane.specs.declared.Point.{Point}
 use Rattle.plug_words.specs.declared.RoundShapes.{RoundShapes}
 use Rattle.formats.specs.Content.{content_of}
 use Rattle.file_passes.specs.Steps.{ahead}

@@ -1,6 +1,6 @@
 -- Boxes as records, and the flat list of their edges. Definitions only.
 use Rattle.std.specs.Prelude.{◌≡◌, List, [], ◌∷◌, ℕ, ◌*◌, ◌≤◌, ◌<◌, ℤ, length, take}
-use Rattle.plane.specs.Points.{Point}
+use Rattle.plane.specs.declared.Point.{Point}
 use Rattle.verdicts.specs.Verdicts.{VerdictIs}
 use Rattle.verdicts.specs.Answers.{verdict_of}
 use Rattle.verdicts.specs.declared.Verdict.{Verdict}

@@ -12,7 +12,8 @@ use lib.Signed.{lt_z}
 use Rattle.integers.specs.Upto.{Upto}
 use Rattle.integers.proofs.Machine.{lt_z_false}
 use Rattle.plane.specs.Members.{All, ◌&◌}
-use Rattle.plane.specs.Points.{Point, InSpan}
+use Rattle.plane.specs.Points.{InSpan}
+use Rattle.plane.specs.declared.Point.{Point}
 use Rattle.rounds.specs.Boxes.{boxes_of, Ordered, BoxInSpan, most_boxes, BoxList}
 use Rattle.rounds.specs.declared.Cause.{Cause}
 use Rattle.rounds.specs.declared.Cause.TheVariants as Cause

@@ -7,7 +7,8 @@ use lib.IntN.{ℤ, pos}
 use lib.Signed.{◌<ℤ◌, le_z, lt_z, le_z_yes, lt_z_yes, ≤ℤ_refl}
 use lib.ListN.{length}
 use Rattle.integers.proofs.Order.{≤-antisym}
-use Rattle.plane.specs.Points.{Point, signed_area}
+use Rattle.plane.specs.Points.{signed_area}
+use Rattle.plane.specs.declared.Point.{Point}
 use Rattle.plane.specs.Members.{All, none, ◌&◌, ◌∈◌, here, there}
 use Rattle.plane.specs.Vectors.{from, along, total, weighted, Supported}
 use Rattle.plane.specs.Polygons.{AllRight, Steps, Distinct, Polygon}

@@ -11,7 +11,7 @@ use Rattle.integers.proofs.Expr.{◌⊕◌, ◌⊖◌, ◌⊗◌, ⊝◌, #◌, 
 use Rattle.integers.proofs.Lin.{lin}
 use Rattle.integers.proofs.Cert.{cert, hyp, ◌⊞◌, ◌⊠◌, ◌∵◌, ◌∵◌÷◌}
 use Rattle.integers.proofs.Order.{pos_nn, ◌≤ᶻ◌}
-use Rattle.plane.specs.Points.{Point}
+use Rattle.plane.specs.declared.Point.{Point}
 use Rattle.plane.specs.Members.{All, none, ◌&◌}
 use Rattle.plane.specs.Vectors.{from, along, Supported, Separated}
 use Rattle.plane.proofs.Lists.{all_map, all_unmap, all_left, all_right}

@@ -15,7 +15,7 @@ use Rattle.integers.proofs.Lin.{lin}
 use Rattle.integers.proofs.Ring.{ring}
 use Rattle.integers.proofs.Cert.{cert, hyp, num, eqn, ◌⊞◌, ◌⊠◌, ◌∵◌}
 use Rattle.integers.proofs.Order.{pos_nn, mul_pos, ◌≤ᶻ◌}
-use Rattle.plane.specs.Points.{Point}
+use Rattle.plane.specs.declared.Point.{Point}
 use Rattle.plane.specs.Members.{All, none, ◌&◌, ◌∈◌, here, there}
 use Rattle.plane.specs.Vectors.{from, total, weighted, Balanced}
 use Rattle.plane.proofs.Lists.{in_append}

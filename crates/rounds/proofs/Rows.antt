@@ -5,17 +5,14 @@ use Prim.Native.Nat.{ℕ, zero, suc, ◌+◌, ◌*◌, ◌/◌, ◌<◌, ◌≤�
 use native.Mathlib.Omega.{arith}
 use lib.IntN.{ℤ, pos}
 use lib.ListN.{length, get_or, drop, drop_of_length-le}
-use Rattle.plane.specs.Points.{Point, point}
+use Rattle.plane.specs.Points.{point}
+use Rattle.plane.specs.declared.Point.{Point}
 use Rattle.plane.specs.Members.{All}
 use Rattle.plane.proofs.Lists.{index_of_all}
 use Rattle.integers.proofs.Parts.{drop_two, drop_four}
-use Rattle.rounds.specs.Boxes.{box, boxes_of, box_at, plugs_of}
+use Rattle.rounds.specs.Boxes.{plug_at, box, boxes_of, box_at, plugs_of}
 use Rattle.rounds.specs.declared.Box.{Box}
 use Rattle.rounds.specs.Refusals.{Fault, ◌or_else◌, box_fault, each_box_fault, plug_fault, each_plug_fault}
-
--- the plug whose coordinates start at i
-abbrev pub plug_at : List ℤ → ℕ → Point
-plug_at xs i = point (get_or xs i (pos 0)) (get_or xs (i + 1) (pos 0))
 
 -- the fault f of the box at i, then those of the boxes from j on
 pub box_step : (xs : List ℤ) (k i j : ℕ) {f : Fault} → f ≡ box_fault k (box_at xs i) → i + 3 < length xs → i + 4 ≡ j

@@ -1,7 +1,7 @@
 -- What shows undecided: the drivers' reasons. (`Corners` has outside and inside, in terms of directions.) Assumes nothing.
 use mathlib.Core.List.{List}
 use lib.IntN.{ℤ}
-use Rattle.plane.specs.Points.{Point}
+use Rattle.plane.specs.declared.Point.{Point}
 use Rattle.plane.specs.Members.{All}
 use Rattle.rounds.specs.Boxes.{Ordered}
 use Rattle.rounds.specs.declared.Box.{Box}

@@ -2,7 +2,8 @@
 use Rattle.std.specs.Prelude.{ℕ, ◌+◌, ◌/◌, ◌%◌, ◌≤◌, ◌≡◌, List, [], ◌∷◌, ◌++◌, map, ℤ, pos, length, get_or, ◌≤ℤ◌}
 use Rattle.integers.specs.Upto.{Upto}
 use Rattle.plane.specs.Members.{All}
-use Rattle.plane.specs.Points.{Point, point, span}
+use Rattle.plane.specs.Points.{point, span}
+use Rattle.plane.specs.declared.Point.{Point}
 use Rattle.rounds.specs.declared.Box.{Box}
 use Rattle.rounds.specs.declared.Corner.{Corner}
 use Rattle.rounds.specs.declared.Corner.TheVariants.{SouthWest, SouthEast, NorthEast, NorthWest}
@@ -28,6 +29,10 @@ abbrev pub plugs_of : List ℤ → List Point
 plugs_of [] = []
 plugs_of (e ∷ []) = []
 plugs_of (e ∷ n ∷ rest) = point e n ∷ plugs_of rest
+
+-- the plug whose two numbers start at an index of a flat list; 0 stands for what is past its end
+abbrev pub plug_at : List ℤ → ℕ → Point
+plug_at l i = point (get_or l i (pos 0)) (get_or l (i + 1) (pos 0))
 
 -- the edges are in order; a line and a point are boxes too
 pub record Ordered (b : Box) : Type 0 where

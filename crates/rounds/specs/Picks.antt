@@ -1,6 +1,6 @@
 -- Picks: one point in every box, whole or fractional. Definitions only.
 use Rattle.std.specs.Prelude.{ℕ, ◌<◌, List, [], ◌∷◌, pos, ◌*ℤ◌, ◌≤ℤ◌}
-use Rattle.plane.specs.Points.{Point}
+use Rattle.plane.specs.declared.Point.{Point}
 use Rattle.rounds.specs.declared.Box.{Box}
 
 -- the point whose coordinates are q's over d lies in the box, edges included

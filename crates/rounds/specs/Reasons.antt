@@ -1,7 +1,7 @@
 -- What an undecided verdict carries, and what it shows. Definitions only.
 use Rattle.std.specs.Prelude.{ℕ, suc, ◌+◌, ◌<◌, ◌≤◌, cond, ◌≡◌, List, [], ◌∷◌, map, eqb, ℤ, pos, ◌+ℤ◌, ◌*ℤ◌, ◌≤ℤ◌, length}
 use Rattle.integers.specs.Upto.{Upto}
-use Rattle.plane.specs.Points.{Point}
+use Rattle.plane.specs.declared.Point.{Point}
 use Rattle.plane.specs.Members.{All}
 use Rattle.plane.specs.Vectors.{from, along, total, weighted}
 use Rattle.rounds.specs.Boxes.{corner_of, corners_of}

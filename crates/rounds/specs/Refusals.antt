@@ -1,14 +1,13 @@
 -- The table of refusals (docs/SCOPE.md 6.2, 6.3): each cause with its number, and the order of the causes for each call. Definitions only.
-use Rattle.std.specs.Prelude.{ℕ, ◌+◌, ◌*◌, ◌/◌, ◌%◌, min, Bool, true, false, not, ◌||◌, List, [], ◌∷◌, ℤ, pos, neg_ℤ, eqb, ltb, length}
+use Rattle.std.specs.Prelude.{Result, Ok, Err, ℕ, ◌+◌, ◌*◌, ◌/◌, ◌%◌, min, Bool, true, false, not, ◌||◌, List, [], ◌∷◌, ℤ, pos, neg_ℤ, eqb, ltb, length}
 use Rattle.std.specs.Int.Signed.{lt_z}
-use Rattle.plane.specs.Points.{Point, span}
+use Rattle.plane.specs.Points.{span}
+use Rattle.plane.specs.declared.Point.{Point}
 use Rattle.rounds.specs.Boxes.{boxes_of, plugs_of, most_boxes}
 use Rattle.rounds.specs.declared.Box.{Box}
 use Rattle.rounds.specs.declared.Cause.{Cause}
 use Rattle.rounds.specs.declared.Cause.TheVariants as Cause
 use Rattle.rounds.specs.declared.Refusal.{Refusal}
-use Rattle.rounds.specs.declared.Checked.{Checked}
-use Rattle.rounds.specs.declared.Checked.TheVariants.{Accepted, Refused}
 
 -- ---- the causes, row by row
 
@@ -32,13 +31,13 @@ pub data Fault : Type 0 where
   none : Fault
   fault : Cause → ℕ → Fault
 
--- the fault that a refusal returns, and each case of a check's answer
+-- the fault that a refusal returns, and each case of a call's answer
 abbrev pub refusal_fault : Refusal → Fault
 refusal_fault r = fault r.cause r.place
 
-abbrev pub fault_of : Checked → Fault
-fault_of Accepted = none
-fault_of (Refused r) = refusal_fault r
+abbrev pub fault_of : {A : Type 0} → Result A Refusal → Fault
+fault_of (Ok a) = none
+fault_of (Err r) = refusal_fault r
 
 -- the place of cause 7: the length needed, or the largest 64-bit number if that is less
 abbrev pub needed_place : ℕ → ℕ

@@ -1,7 +1,7 @@
 -- The two drivers, and what each verdict word says of every pick (docs/SCOPE.md 1.9, 4.1). Definitions only.
 use Rattle.std.specs.Prelude.{◌⊎◌, List, map}
 use Rattle.std.proofs.Common.{inl, inr}
-use Rattle.plane.specs.Points.{Point}
+use Rattle.plane.specs.declared.Point.{Point}
 use Rattle.plane.specs.Vectors.{from, Supported, Balanced}
 use Rattle.plane.proofs.Alternative.{alternative}
 use Rattle.plane.proofs.Supporting.{supported_dec}

@@ -1,6 +1,12 @@
-// Boxes, corners, words, reasons, causes and refusals as types, and their sizes (docs/SCOPE.md). What they
-// mean is in specs/, the theorems about them in proofs/. The crate has no function.
+// Boxes, corners, words, reasons, causes and refusals as types, with their numbers and their sizes (docs/SCOPE.md). What
+// they mean is in specs/, the theorems about them in proofs/.
 #![tactic(auto)]
+
+ghost use Rattle.std.specs.Prelude.{◌≡◌};
+ghost use Rattle.rounds.specs.Boxes.{corner_of};
+ghost use Rattle.rounds.specs.Refusals.{number_of};
+
+use plane::Point;
 
 // The most boxes that a round has.
 pub const MOST_BOXES: usize = 1024;
@@ -13,7 +19,7 @@ pub const MOST_INPUT: usize = 65536;
 
 // A box: four edges in whole metres.
 #[repr(C)]
-#[derive(Clone, Copy)]
+#[derive(Clone, Copy, Debug, PartialEq, Eq)]
 pub struct Box {
     pub west: i32,
     pub south: i32,
@@ -21,8 +27,23 @@ pub struct Box {
     pub north: i32,
 }
 
+impl Box {
+    // The corner that a corner name means.
+    pub fn corner(self, corner: Corner) -> Point
+        ensures { result ≡ corner_of corner self }
+    {
+        let (east, north) = match corner {
+            Corner::SouthWest => (self.west, self.south),
+            Corner::SouthEast => (self.east, self.south),
+            Corner::NorthEast => (self.east, self.north),
+            Corner::NorthWest => (self.west, self.north),
+        };
+        Point { east, north }
+    }
+}
+
 // A corner's name.
-#[derive(Clone, Copy)]
+#[derive(Clone, Copy, Debug, PartialEq, Eq)]
 pub enum Corner {
     SouthWest,
     SouthEast,
@@ -31,7 +52,7 @@ pub enum Corner {
 }
 
 // A verdict's word.
-#[derive(Clone, Copy)]
+#[derive(Clone, Copy, Debug, PartialEq, Eq)]
 pub enum Word {
     Inside,
     Outside,
@@ -40,7 +61,7 @@ pub enum Word {
 
 // The first driver's reason: that corner of every box is the pick, and no picked point is ahead of the plug in the
 // direction.
-#[derive(Clone, Copy)]
+#[derive(Clone, Copy, Debug, PartialEq, Eq)]
 pub struct Direction {
     pub corner: Corner,
     pub east: i32,
@@ -48,7 +69,7 @@ pub struct Direction {
 }
 
 // An entry of the second driver's reason: a box number from 1, a corner's name and a weight.
-#[derive(Clone, Copy)]
+#[derive(Clone, Copy, Debug, PartialEq, Eq)]
 pub struct Entry {
     pub number: usize,
     pub corner: Corner,
@@ -56,7 +77,7 @@ pub struct Entry {
 }
 
 // What an undecided verdict carries: a direction for the first driver, three entries for the second.
-#[derive(Clone, Copy)]
+#[derive(Clone, Copy, Debug, PartialEq, Eq)]
 pub struct Reasons {
     pub direction: Direction,
     pub first: Entry,
@@ -64,33 +85,34 @@ pub struct Reasons {
     pub third: Entry,
 }
 
-// A cause of the table of refusals (docs/SCOPE.md 6.2), in the order of their numbers (`number_of` of specs/Refusals).
-#[derive(Clone, Copy)]
+// A cause of the table of refusals (docs/SCOPE.md 6.2), with its number.
+#[derive(Clone, Copy, Debug, PartialEq, Eq)]
 pub enum Cause {
-    ListLength,
-    NoBox,
-    TooManyBoxes,
-    EdgeBeyond,
-    EdgesReversed,
-    PlugBeyond,
-    BufferShort,
-    UnknownMark,
-    CutShort,
-    BoxAfterPlug,
-    ByteAfterEnd,
-    InputTooLong,
+    ListLength = 1,
+    NoBox = 2,
+    TooManyBoxes = 3,
+    EdgeBeyond = 4,
+    EdgesReversed = 5,
+    PlugBeyond = 6,
+    BufferShort = 7,
+    UnknownMark = 8,
+    CutShort = 9,
+    BoxAfterPlug = 10,
+    ByteAfterEnd = 11,
+    InputTooLong = 12,
+}
+
+impl From<Cause> for u32 {
+    ghost from_gives = { λ cause number. number ≡ number_of cause };
+
+    fn from(cause: Cause) -> u32 {
+        cause as u32
+    }
 }
 
 // What a refusal returns: its cause, which has a number, and a place.
-#[derive(Clone, Copy)]
+#[derive(Clone, Copy, Debug, PartialEq, Eq)]
 pub struct Refusal {
     pub cause: Cause,
     pub place: usize,
-}
-
-// What a check finds.
-#[derive(Clone, Copy)]
-pub enum Checked {
-    Accepted,
-    Refused(Refusal),
 }

@@ -7,7 +7,8 @@ use lib.Signed.{◌<ℤ◌}
 use lib.ListN.{length}
 use Rattle.integers.proofs.Expr.{◌⊖◌, #◌, ◌≼◌, ◌≺◌, ◌⟹◌}
 use Rattle.integers.proofs.Cert.{cert, hyp, ◌⊞◌, ◌∵◌}
-use Rattle.plane.specs.Points.{Point, point, signed_area}
+use Rattle.plane.specs.Points.{point, signed_area}
+use Rattle.plane.specs.declared.Point.{Point}
 use Rattle.plane.specs.Members.{All}
 use Rattle.plane.specs.Vectors.{from, along, Separated}
 use Rattle.plane.proofs.Lists.{all_map, all_append, all_by_index}

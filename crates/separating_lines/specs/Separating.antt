@@ -1,6 +1,6 @@
 -- A plug that a line separates from all boxes. Definitions only.
 use Rattle.std.specs.Prelude.{◌≡◌, Bool, true, List, map}
-use Rattle.plane.specs.Points.{Point}
+use Rattle.plane.specs.declared.Point.{Point}
 use Rattle.plane.specs.Vectors.{from, Separated}
 use Rattle.rounds.specs.Boxes.{all_corners}
 use Rattle.rounds.specs.declared.Box.{Box}

@@ -3,7 +3,7 @@ use Prim.Native.Nat.{ℕ}
 use mathlib.Core.Path.{◌≡◌, refl, sym, subst}
 use mathlib.Core.List.{List, map}
 use lib.IntN.{pos}
-use Rattle.plane.specs.Points.{Point}
+use Rattle.plane.specs.declared.Point.{Point}
 use Rattle.plane.specs.Vectors.{from, Supported}
 use Rattle.turns.specs.Keys.{Key, point_of}
 use Rattle.turns.proofs.Coordinates.{key_in_span}

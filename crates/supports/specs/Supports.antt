@@ -1,6 +1,7 @@
 -- What the corners of boxes tell the first driver of a plug, and what a cone tells. Definitions only.
 use Rattle.std.specs.Prelude.{◌≡◌, Bool, true, List, map}
-use Rattle.plane.specs.Points.{Point, outward_east, outward_north}
+use Rattle.plane.specs.Points.{outward_east, outward_north}
+use Rattle.plane.specs.declared.Point.{Point}
 use Rattle.plane.specs.Vectors.{from, Supported}
 use Rattle.rounds.specs.Boxes.{corners_of}
 use Rattle.rounds.specs.Reasons.{DirectionHolds}

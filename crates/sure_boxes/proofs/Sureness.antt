@@ -14,7 +14,8 @@ use Rattle.integers.proofs.Lin.{lin}
 use Rattle.integers.proofs.Cert.{cert, hyp, ◌∵◌}
 use Rattle.integers.proofs.Machine.{lt_z_true}
 use Rattle.integers.proofs.Order.{◌≤ᶻ◌}
-use Rattle.plane.specs.Points.{Point, InSpan, span}
+use Rattle.plane.specs.Points.{InSpan, span}
+use Rattle.plane.specs.declared.Point.{Point}
 use Rattle.plane.specs.Members.{All}
 use Rattle.plane.specs.Vectors.{from, along, Supported}
 use Rattle.plane.proofs.Lists.{all_imp, all_map, all_unmap}

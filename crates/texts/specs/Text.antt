@@ -3,7 +3,7 @@ use Rattle.std.specs.Prelude.{ℕ, ◌+◌, ◌≡◌, length}
 use Prim.Native.Char.{code}
 use Prim.Native.String.{String, [] as ε, ◌∷◌ as ◌◁◌}
 use mathlib.Core.List.{List, [], ◌∷◌, ◌++◌, flat_map}
-use Rattle.plane.specs.Points.{Point}
+use Rattle.plane.specs.declared.Point.{Point}
 use Rattle.rounds.specs.declared.Box.{Box}
 use Rattle.rounds.specs.Refusals.{Fault, none, fault, number_of, ◌or_else◌, input_fault, box_list_fault, plug_fault}
 use Rattle.rounds.specs.Replies.{Reply, result, refused, reply_under, buffer_under}

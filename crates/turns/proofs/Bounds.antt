@@ -11,7 +11,8 @@ use mir.ValLaws.{to_z-of_z}
 use Rattle.integers.specs.Upto.{Upto}
 use Rattle.integers.proofs.Machine.{Got, plain, upto_add, upto_sub, upto_mul, upto_neg}
 use Rattle.integers.proofs.Tests.{ok}
-use Rattle.plane.specs.Points.{Point, InSpan, signed_area, dot_product, outward_east, outward_north}
+use Rattle.plane.specs.Points.{InSpan, signed_area, dot_product, outward_east, outward_north}
+use Rattle.plane.specs.declared.Point.{Point}
 
 -- ---- sizes
 

@@ -14,7 +14,8 @@ use Rattle.integers.proofs.Lin.{lin}
 use Rattle.integers.proofs.Ring.{ring}
 use Rattle.integers.proofs.Diff.{is_self, is_neg, is_add, is_eq, is_le, le_is}
 use Rattle.integers.proofs.Machine.{fits, plain, upto_plain, upto_sub, Got, got, got', ask_sub, got_sub, ask_add, got_add}
-use Rattle.plane.specs.Points.{Point, InSpan, point, signed_area}
+use Rattle.plane.specs.Points.{InSpan, point, signed_area}
+use Rattle.plane.specs.declared.Point.{Point}
 use Rattle.plane.proofs.Twins.{signed_areaᴱ}
 use Rattle.turns.specs.Keys.{stride, east_part, north_part, Key, KeyOf, key_at, point_of}
 use Rattle.turns.proofs.Parts.{east_made, north_made}
@@ -108,12 +109,12 @@ moved_by (negsuc n) h =
       is = lin 0 2 (λ a b. a ⊕ # 16000 ≐ b ⟹ b ⊖ # 16000 ≐ a) (omega arith) (negsuc n) (pos (16000 - suc n)) e;
     })
 
-module _ {z : ℤ} (f : SFits w32 z) (h : Upto 16000 z) where
+module _ {z : ℤ} (h : Upto 16000 z) where
   pub moved_fits : SFits w32 (to_z w32 (of_z w32 z) +ℤ to_z w32 (of_z w32 (pos 16000)))
-  moved_fits = ask_add (got f h) datum tt
+  moved_fits = ask_add (got (fits w32 tt h) h) datum tt
 
   pub moved : Moved (to_z w32 (of_z w32 (to_z w32 (of_z w32 z) +ℤ to_z w32 (of_z w32 (pos 16000))))) z
-  moved = subst (λ x. Moved x z) (sym (got_add (got f h) datum tt).eq) (moved_by z h)
+  moved = subst (λ x. Moved x z) (sym (got_add (got (fits w32 tt h) h) datum tt).eq) (moved_by z h)
 
 -- the key of two moved numbers
 pub key_made : {t s e n : ℤ} → Moved t e → Moved s n → KeyOf (point e n) (nat_abs t * stride + nat_abs s)

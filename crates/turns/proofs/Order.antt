@@ -10,7 +10,8 @@ use lib.IntN.{pos, ◌-ℤ◌}
 use lib.Signed.{lt_z, ◌<ℤ◌}
 use Rattle.integers.proofs.Expr.{◌⊖◌, #◌, ◌≐◌, ◌≺◌, ◌⟹◌}
 use Rattle.integers.proofs.Lin.{lin}
-use Rattle.plane.specs.Points.{Point, point}
+use Rattle.plane.specs.Points.{point}
+use Rattle.plane.specs.declared.Point.{Point}
 use Rattle.plane.proofs.Angular.{Up, ahead, above}
 use Rattle.turns.specs.Keys.{east_part, north_part, point_of, precedes}
 use Rattle.turns.proofs.Parts.{part_less}

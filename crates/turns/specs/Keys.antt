@@ -2,7 +2,8 @@
 -- the order of keys is that of points by east, then by north. No other crate sees how a key is made: it goes by the laws of proofs/. Definitions only.
 use Rattle.std.specs.Prelude.{◌≡◌, Bool, true, false, cond, ℕ, ◌+◌, ◌*◌, ◌/◌, ◌%◌, ◌≤◌, ◌<◌, pos, nat_abs, ◌+ℤ◌, ◌-ℤ◌}
 use Rattle.std.specs.Int.Signed.{lt_z}
-use Rattle.plane.specs.Points.{Point, point, span}
+use Rattle.plane.specs.Points.{point, span}
+use Rattle.plane.specs.declared.Point.{Point}
 
 -- the greatest part: from one end of the span to the other
 abbrev pub greatest_part : ℕ

@@ -1,6 +1,7 @@
 -- Reflection through the datum, (e, n) to (−e, −n), of points and of keys. Definitions only.
 use Rattle.std.specs.Prelude.{ℕ, ◌-◌, neg_ℤ}
-use Rattle.plane.specs.Points.{Point, point}
+use Rattle.plane.specs.Points.{point}
+use Rattle.plane.specs.declared.Point.{Point}
 use Rattle.turns.specs.Keys.{greatest_key}
 
 -- the point reflected through the datum

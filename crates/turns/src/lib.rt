@@ -5,13 +5,13 @@
 
 ghost use Rattle.std.specs.Prelude.{◌≡◌, pos, ◌-ℤ◌, ◌≤ℤ◌};
 ghost use Rattle.std.specs.Int.Signed.{lt_z};
-ghost use Rattle.plane.specs.Points.{InSpan, point, signed_area, dot_product};
+ghost use Rattle.plane.specs.Points.{InSpan, signed_area, dot_product};
 ghost use Rattle.turns.specs.Keys.{Key, KeyOf, point_of, east_part, north_part};
 ghost use Rattle.turns.specs.Turns.{turn_of};
 ghost use Rattle.turns.specs.Reflection.{reflected};
 ghost use Rattle.turns.specs.Sums.{sum_of, difference_of, Encoded, Decoded};
 
-use plane::SPAN;
+use plane::{Point, SPAN};
 
 // How much greater a key is than that of the point one metre west: more than any part of a key.
 const STRIDE: u32 = 32768;
@@ -26,7 +26,7 @@ const GREATEST_KEY: u32 = GREATEST_PART * STRIDE + GREATEST_PART;
 pub const KEY_BOUND: u32 = STRIDE * STRIDE;
 
 // The turn from one point over a second to a third.
-#[derive(Clone, Copy)]
+#[derive(Clone, Copy, Debug, PartialEq, Eq)]
 pub enum Turn {
     Right,
     Straight,
@@ -34,12 +34,12 @@ pub enum Turn {
 }
 
 // The key of a point of the span.
-pub fn key_of(east: i32, north: i32) -> u32
-    requires { InSpan (point east north) }
-    ensures { KeyOf (point east north) result }
+pub fn key_of(point: Point) -> u32
+    requires { InSpan point }
+    ensures { KeyOf point result }
 {
-    let e = (east + SPAN) as u32;
-    let n = (north + SPAN) as u32;
+    let e = (point.east + SPAN) as u32;
+    let n = (point.north + SPAN) as u32;
     e * STRIDE + n
 }
 

@@ -1,7 +1,7 @@
 -- The verdict that is given, reasons included: it fixes the choice of reasons, so that calls can be proved equal. What the verdict means is `VerdictIs` (Verdicts).
 -- Definitions only.
 use Rattle.std.specs.Prelude.{List, ℕ, ℤ}
-use Rattle.plane.specs.Points.{Point}
+use Rattle.plane.specs.declared.Point.{Point}
 use Rattle.turns.specs.Keys.{key_at}
 use Rattle.rounds.specs.Boxes.{boxes_of}
 use Rattle.rounds.specs.Refusals.{Fault, none, fault, verdict_fault}

@@ -1,6 +1,6 @@
 -- The verdict on a plug, with its reasons (docs/SCOPE.md 4). Definitions only.
 use Rattle.std.specs.Prelude.{◌≡◌, List, ℤ}
-use Rattle.plane.specs.Points.{Point}
+use Rattle.plane.specs.declared.Point.{Point}
 use Rattle.rounds.specs.Boxes.{boxes_of}
 use Rattle.rounds.specs.Reasons.{Reasoned}
 use Rattle.rounds.specs.Refusals.{verdict_fault}

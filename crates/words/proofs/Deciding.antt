@@ -6,7 +6,7 @@ use Prim.Native.Nat.{ℕ, ◌+◌, ◌≤◌}
 use native.Mathlib.Omega.{arith}
 use lib.ListN.{length, take, drop, length-drop}
 use lib.Seq.{length-take-le}
-use Rattle.plane.specs.Points.{Point}
+use Rattle.plane.specs.declared.Point.{Point}
 use Rattle.plane.specs.Vectors.{from, Supported, Balanced}
 use Rattle.plane.proofs.Lists.{all_map, all_unmap}
 use Rattle.plane.proofs.Alternative.{alternative, separated_supported}

@@ -1,6 +1,6 @@
 -- The word of a plug against the five polygons of some boxes, which are given by their vertices' keys. Definitions only.
 use Rattle.std.specs.Prelude.{◌≡◌, Bool, true, false, List, map, ℕ, ◌+◌, ◌≤◌, length}
-use Rattle.plane.specs.Points.{Point}
+use Rattle.plane.specs.declared.Point.{Point}
 use Rattle.plane.specs.Members.{All}
 use Rattle.plane.specs.Vectors.{from, Supported}
 use Rattle.plane.specs.Polygons.{Polygon}

@@ -3,7 +3,7 @@ use mathlib.Core.Path.{◌≡◌, refl, sym, subst}
 use Prim.Native.Nat.{ℕ}
 use mathlib.Core.List.{List}
 use native.Mathlib.Omega.{arith}
-use Rattle.plane.specs.Points.{Point}
+use Rattle.plane.specs.declared.Point.{Point}
 use Rattle.turns.specs.Keys.{point_of}
 use Rattle.rounds.specs.declared.Box.{Box}
 use Rattle.rounds.proofs.Rows.{boxes_length}

@@ -4,8 +4,8 @@ use Prim.Native.Nat.{◌+◌, ◌-◌, ◌*◌, ◌≤◌}
 use native.Mathlib.Omega.{arith}
 use borrow.Author.Rules.{rules}
 use lib.ListN.{length, take, drop}
-use Rattle.plane.specs.Points.{Point}
-use Rattle.rounds.proofs.Rows.{plug_at}
+use Rattle.plane.specs.declared.Point.{Point}
+use Rattle.rounds.specs.Boxes.{plug_at}
 use Rattle.plug_lines.specs.Steps.{most_plug_line, LineBy}
 use Rattle.texts.proofs.Writing.{wrote_as}
 use Rattle.plug_lines.proofs.Lines.{sofar_none, sofar_length, sofar_room, sofar_part, sofar_more, sofar_all}

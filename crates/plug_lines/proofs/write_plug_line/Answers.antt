@@ -2,7 +2,8 @@
 use mathlib.Core.Path.{subst}
 use native.Mathlib.Omega.{arith}
 use borrow.Author.Rules.{rules}
-use Rattle.plane.specs.Points.{Point, point}
+use Rattle.plane.specs.Points.{point}
+use Rattle.plane.specs.declared.Point.{Point}
 use Rattle.texts.specs.Text.{plug_line}
 use Rattle.plug_words.specs.Plugs.{WordBy}
 use Rattle.texts.proofs.Writing.{then_wrote, both_fit}

@@ -8,7 +8,8 @@ use lib.ListN.{length, take}
 use mir.Syntax.{w32}
 use mir.ValLaws.{to_z-of_z}
 use lib.Seq.{length-take-le}
-use Rattle.plane.specs.Points.{Point, point}
+use Rattle.plane.specs.Points.{point}
+use Rattle.plane.specs.declared.Point.{Point}
 use Rattle.verdicts.specs.Answers.{verdict_of}
 use Rattle.verdicts.specs.declared.Verdict.{Verdict}
 use Rattle.verdicts.proofs.Answering.{given_is, refused_given}

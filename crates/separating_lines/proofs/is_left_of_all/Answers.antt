@@ -10,7 +10,8 @@ use lib.Signed.{◌<ℤ◌}
 use lib.ListN.{length}
 use mir.Syntax.{w64}
 use Rattle.integers.proofs.Machine.{le_z_false, lt_plain}
-use Rattle.plane.specs.Points.{Point, signed_area}
+use Rattle.plane.specs.Points.{signed_area}
+use Rattle.plane.specs.declared.Point.{Point}
 use Rattle.turns.specs.Keys.{point_of}
 use Rattle.turns.proofs.Bounds.{returned}
 use Rattle.rounds.specs.Boxes.{boxes_of}

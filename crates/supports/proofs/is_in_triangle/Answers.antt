@@ -7,7 +7,8 @@ use native.Mathlib.Omega.{arith}
 use lib.IntN.{pos}
 use lib.ListN.{length}
 use Rattle.integers.proofs.Machine.{lt_z_true}
-use Rattle.plane.specs.Points.{Point, point}
+use Rattle.plane.specs.Points.{point}
+use Rattle.plane.specs.declared.Point.{Point}
 use Rattle.plane.specs.Members.{◌∈◌, none, ◌&◌}
 use Rattle.plane.proofs.Lists.{in_by_index}
 use Rattle.plane.proofs.Winding.{winding_within}
