@@ -4,7 +4,7 @@
 // how many of each call's buffer. oracle/write_cases.py writes `stdin`, and `stdout` from docs/SCOPE.md.
 #![tactic(auto)]
 
-use areas::{CornersReply, OuterReply};
+use rounds::Refusal;
 use std::io::{self, Read};
 
 // What stands in a buffer before a call.
@@ -15,71 +15,56 @@ const LIST: usize = 4104;
 
 const BUFFER: usize = 8200;
 
-fn print_outer(output: &impl Print, reply: OuterReply) -> io::Result<()> {
+// Prints what a call answers, its name and counts or a refusal, and every number of its buffer.
+fn print_reply<const N: usize>(
+    output: &impl Print,
+    name: &str,
+    reply: Result<[usize; N], Refusal>,
+    answer: &[i32],
+) -> io::Result<()> {
     match reply {
-        OuterReply::Vertices(count) => {
-            cases::print_text(output, b"outer")?;
-            cases::print_count(output, count)
+        Ok(counts) => {
+            print!(output; "{name}")?;
+            for count in counts {
+                cases::print_number(output, count)?;
+            }
         }
-        OuterReply::Refused(refusal) => cases::print_refusal(output, refusal),
+        Err(refusal) => print!(output; "{refusal}")?,
     }
-}
-
-fn print_corners(output: &impl Print, reply: CornersReply) -> io::Result<()> {
-    match reply {
-        CornersReply::Vertices(counts) => {
-            cases::print_text(output, b"corners")?;
-            cases::print_count(output, counts.southwest)?;
-            cases::print_count(output, counts.southeast)?;
-            cases::print_count(output, counts.northeast)?;
-            cases::print_count(output, counts.northwest)
-        }
-        CornersReply::Refused(refusal) => cases::print_refusal(output, refusal),
-    }
-}
-
-fn print_buffer(output: &impl Print, answer: &[i32]) -> io::Result<()> {
-    cases::print_text(output, b":")?;
+    print!(output; ":")?;
     cases::print_numbers(output, answer)?;
-    cases::print_text(output, b"\n")
+    println!(output; "")
 }
 
-fn run_outer(output: &impl Print, boxes: &[i32], answer: &mut [i32]) -> io::Result<()> {
-    print_outer(output, areas::outer_polygon(boxes, answer))?;
-    print_buffer(output, answer)
+fn run_outer(input: &mut impl Read, output: &impl Print, boxes: &[i32]) -> io::Result<()> {
+    let mut buffer = [MARK; BUFFER];
+    let answer = cases::read_front(input, &mut buffer);
+    let reply = areas::outer_polygon(boxes, answer);
+    print_reply(output, "outer", reply.map(|count| [count]), answer)
 }
 
-fn run_corners(output: &impl Print, boxes: &[i32], answer: &mut [i32]) -> io::Result<()> {
-    print_corners(output, areas::corner_polygons(boxes, answer))?;
-    print_buffer(output, answer)
+fn run_corners(input: &mut impl Read, output: &impl Print, boxes: &[i32]) -> io::Result<()> {
+    let mut buffer = [MARK; BUFFER];
+    let answer = cases::read_front(input, &mut buffer);
+    let reply = areas::corner_polygons(boxes, answer);
+    let counts = reply.map(|n| [n.southwest, n.southeast, n.northeast, n.northwest]);
+    print_reply(output, "corners", counts, answer)
 }
 
-fn outer_case(input: &mut impl Read, output: &impl Print, boxes: &[i32]) -> io::Result<()> {
-    let mut answer = [MARK; BUFFER];
-    let given = cases::read_front(input, &answer);
-    run_outer(output, boxes, &mut answer[..given])
-}
-
-fn corners_case(input: &mut impl Read, output: &impl Print, boxes: &[i32]) -> io::Result<()> {
-    let mut answer = [MARK; BUFFER];
-    let given = cases::read_front(input, &answer);
-    run_corners(output, boxes, &mut answer[..given])
-}
-
-fn run_case(input: &mut impl Read, output: &impl Print, boxes: &mut [i32]) -> io::Result<()> {
-    cases::read_over(input, boxes);
-    let lent = cases::read_front(input, boxes);
-    outer_case(input, output, &boxes[..lent])?;
-    corners_case(input, output, &boxes[..lent])
+fn run_case(input: &mut impl Read, output: &impl Print, list: &mut [i32]) -> io::Result<()> {
+    cases::read_over(input, list);
+    let boxes = cases::read_front(input, list);
+    run_outer(input, output, boxes)?;
+    run_corners(input, output, boxes)
 }
 
 fn main(rt: HostRuntime) -> io::Result<()> {
     let mut input = rt.stdin();
     let output = rt.stdout();
-    let mut boxes = [0i32; LIST];
+    let mut list = [0i32; LIST];
     let count = cases::read_count(&mut input);
     for _ in 0..count {
-        run_case(&mut input, &output, &mut boxes)?;
+        run_case(&mut input, &output, &mut list)?;
     }
     Ok(())
 }

@@ -6,7 +6,6 @@
 // from docs/SCOPE.md.
 #![tactic(auto)]
 
-use formats::{Reading, Writing};
 use std::io::{self, Read};
 
 // What stands in a buffer before a call.
@@ -23,39 +22,21 @@ const COORDINATES: usize = 16;
 
 const WRITTEN: usize = 128;
 
-fn print_reading(output: &impl Print, reading: Reading) -> io::Result<()> {
-    match reading {
-        Reading::Read(counts) => {
-            cases::print_text(output, b"read")?;
-            cases::print_count(output, counts.boxes)?;
-            cases::print_count(output, counts.plugs)
-        }
-        Reading::Refused(refusal) => cases::print_refusal(output, refusal),
-    }
-}
-
-fn print_writing(output: &impl Print, writing: Writing) -> io::Result<()> {
-    match writing {
-        Writing::Written(bytes) => {
-            cases::print_text(output, b"written")?;
-            cases::print_count(output, bytes)
-        }
-        Writing::Refused(refusal) => cases::print_refusal(output, refusal),
-    }
-}
-
 fn run_reader(
     output: &impl Print,
     file: &[u8],
     boxes: &mut [i32],
     plugs: &mut [i32],
 ) -> io::Result<()> {
-    print_reading(output, files::read_round(file, boxes, plugs))?;
-    cases::print_text(output, b": boxes")?;
+    match files::read_round(file, boxes, plugs) {
+        Ok(counts) => print!(output; "read {} {}", counts.boxes, counts.plugs)?,
+        Err(refusal) => print!(output; "{refusal}")?,
+    }
+    print!(output; ": boxes")?;
     cases::print_numbers(output, boxes)?;
-    cases::print_text(output, b", plugs")?;
+    print!(output; ", plugs")?;
     cases::print_numbers(output, plugs)?;
-    cases::print_text(output, b"\n")
+    println!(output; "")
 }
 
 fn run_writer(
@@ -64,43 +45,26 @@ fn run_writer(
     plugs: &[i32],
     file: &mut [u8],
 ) -> io::Result<()> {
-    print_writing(output, files::write_round(boxes, plugs, file))?;
-    cases::print_text(output, b": ")?;
+    match files::write_round(boxes, plugs, file) {
+        Ok(bytes) => print!(output; "written {bytes}")?,
+        Err(refusal) => print!(output; "{refusal}")?,
+    }
+    print!(output; ": ")?;
     cases::print_bytes(output, file)?;
-    cases::print_text(output, b"\n")
-}
-
-fn run_both(
-    output: &impl Print,
-    file: &[u8],
-    boxes: &mut [i32],
-    plugs: &mut [i32],
-    written: &mut [u8],
-) -> io::Result<()> {
-    run_reader(output, file, boxes, plugs)?;
-    run_writer(output, boxes, plugs, written)
-}
-
-fn file_case(input: &mut impl Read, output: &impl Print, file: &[u8]) -> io::Result<()> {
-    let mut boxes = [MARK; EDGES];
-    let mut plugs = [MARK; COORDINATES];
-    let mut written = [MARK_BYTE; WRITTEN];
-    let edges = cases::read_front(input, &boxes);
-    let coordinates = cases::read_front(input, &plugs);
-    let bytes = cases::read_byte_front(input, &written);
-    run_both(
-        output,
-        file,
-        &mut boxes[..edges],
-        &mut plugs[..coordinates],
-        &mut written[..bytes],
-    )
+    println!(output; "")
 }
 
 fn run_case(input: &mut impl Read, output: &impl Print, file: &mut [u8]) -> io::Result<()> {
     cases::read_bytes_over(input, file);
-    let lent = cases::read_byte_front(input, file);
-    file_case(input, output, &file[..lent])
+    let file = cases::read_front(input, file);
+    let mut box_buffer = [MARK; EDGES];
+    let mut plug_buffer = [MARK; COORDINATES];
+    let mut file_buffer = [MARK_BYTE; WRITTEN];
+    let boxes = cases::read_front(input, &mut box_buffer);
+    let plugs = cases::read_front(input, &mut plug_buffer);
+    let written = cases::read_front(input, &mut file_buffer);
+    run_reader(output, file, boxes, plugs)?;
+    run_writer(output, boxes, plugs, written)
 }
 
 fn main(rt: HostRuntime) -> io::Result<()> {

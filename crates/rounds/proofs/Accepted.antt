@@ -16,7 +16,6 @@ use Rattle.plane.specs.Points.{InSpan}
 use Rattle.plane.specs.declared.Point.{Point}
 use Rattle.rounds.specs.Boxes.{boxes_of, Ordered, BoxInSpan, most_boxes, BoxList}
 use Rattle.rounds.specs.declared.Cause.{Cause}
-use Rattle.rounds.specs.declared.Cause.TheVariants as Cause
 use Rattle.rounds.specs.declared.Box.{Box}
 use Rattle.rounds.specs.Refusals.{Fault, fault, when, ◌or_else◌, beyond, edge_beyond, edges_reversed, box_fault, each_box_fault, box_list_fault, plug_fault}
 

@@ -3,7 +3,6 @@ use mathlib.Core.Path.{◌≡◌}
 use native.Mathlib.Omega.{arith}
 use Rattle.rounds.specs.Refusals.{number_of}
 use Rattle.rounds.specs.declared.Cause.{Cause}
-use Rattle.rounds.specs.declared.Cause.TheVariants as Cause
 
 -- no cause has the number 0
 pub number_positive : (c : Cause) → number_of c ≡ 0 → ⊥

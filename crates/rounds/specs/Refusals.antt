@@ -6,7 +6,6 @@ use Rattle.plane.specs.declared.Point.{Point}
 use Rattle.rounds.specs.Boxes.{boxes_of, plugs_of, most_boxes}
 use Rattle.rounds.specs.declared.Box.{Box}
 use Rattle.rounds.specs.declared.Cause.{Cause}
-use Rattle.rounds.specs.declared.Cause.TheVariants as Cause
 use Rattle.rounds.specs.declared.Refusal.{Refusal}
 
 -- ---- the causes, row by row

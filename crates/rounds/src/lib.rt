@@ -7,6 +7,7 @@ ghost use Rattle.rounds.specs.Boxes.{corner_of};
 ghost use Rattle.rounds.specs.Refusals.{number_of};
 
 use plane::Point;
+use std::fmt;
 
 // The most boxes that a round has.
 pub const MOST_BOXES: usize = 1024;
@@ -57,6 +58,16 @@ pub enum Word {
     Inside,
     Outside,
     Undecided,
+}
+
+impl fmt::Display for Word {
+    fn fmt<W: fmt::Write>(&self, f: &mut fmt::Formatter<W>) -> fmt::Result {
+        f.write_str(match self {
+            Word::Inside => "inside",
+            Word::Outside => "outside",
+            Word::Undecided => "undecided",
+        })
+    }
 }
 
 // The first driver's reason: that corner of every box is the pick, and no picked point is ahead of the plug in the
@@ -115,4 +126,12 @@ impl From<Cause> for u32 {
 pub struct Refusal {
     pub cause: Cause,
     pub place: usize,
+}
+
+impl fmt::Display for Refusal {
+    fn fmt<W: fmt::Write>(&self, f: &mut fmt::Formatter<W>) -> fmt::Result {
+        let number = u32::from(self.cause);
+        let place = self.place;
+        write!(f, "refused {number} {place}")
+    }
 }

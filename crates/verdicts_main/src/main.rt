@@ -5,55 +5,40 @@
 // the plug. oracle/write_cases.py writes `stdin`, and `stdout` from docs/SCOPE.md.
 #![tactic(auto)]
 
-use rounds::Word;
+use plane::Point;
+use rounds::{Refusal, Word};
 use std::io::{self, Read};
-use verdicts::{Verdict, WordReply};
 
 // How many numbers the box list has.
 const LIST: usize = 4104;
 
-fn print_verdict(output: &impl Print, verdict: Verdict) -> io::Result<()> {
-    match verdict {
-        Verdict::Inside => print_word(output, Word::Inside),
-        Verdict::Outside => print_word(output, Word::Outside),
-        Verdict::Undecided(_) => print_word(output, Word::Undecided),
-        Verdict::Refused(refusal) => cases::print_refusal(output, refusal),
-    }
-}
-
-fn print_word(output: &impl Print, word: Word) -> io::Result<()> {
-    match word {
-        Word::Inside => cases::print_text(output, b"inside"),
-        Word::Outside => cases::print_text(output, b"outside"),
-        Word::Undecided => cases::print_text(output, b"undecided"),
-    }
-}
-
-fn print_reply(output: &impl Print, reply: WordReply) -> io::Result<()> {
+fn print_reply(output: &impl Print, reply: Result<Word, Refusal>) -> io::Result<()> {
     match reply {
-        WordReply::Given(word) => print_word(output, word),
-        WordReply::Refused(refusal) => cases::print_refusal(output, refusal),
+        Ok(word) => print!(output; "{word}"),
+        Err(refusal) => print!(output; "{refusal}"),
     }
 }
 
-fn run_case(input: &mut impl Read, output: &impl Print, boxes: &mut [i32]) -> io::Result<()> {
-    cases::read_over(input, boxes);
-    let lent = cases::read_front(input, boxes);
+fn run_case(input: &mut impl Read, output: &impl Print, list: &mut [i32]) -> io::Result<()> {
+    cases::read_over(input, list);
+    let boxes = cases::read_front(input, list);
     let east = cases::read_number(input);
     let north = cases::read_number(input);
-    print_verdict(output, verdicts::verdict_on(&boxes[..lent], east, north))?;
-    cases::print_text(output, b", ")?;
-    print_reply(output, verdicts::word_on(&boxes[..lent], east, north))?;
-    cases::print_text(output, b"\n")
+    let plug = Point { east, north };
+    let verdict = verdicts::verdict_on(boxes, plug);
+    print_reply(output, verdict.map(|verdict| verdict.word()))?;
+    print!(output; ", ")?;
+    print_reply(output, verdicts::word_on(boxes, plug))?;
+    println!(output; "")
 }
 
 fn main(rt: HostRuntime) -> io::Result<()> {
     let mut input = rt.stdin();
     let output = rt.stdout();
-    let mut boxes = [0i32; LIST];
+    let mut list = [0i32; LIST];
     let count = cases::read_count(&mut input);
     for _ in 0..count {
-        run_case(&mut input, &output, &mut boxes)?;
+        run_case(&mut input, &output, &mut list)?;
     }
     Ok(())
 }

@@ -1,5 +1,5 @@
 -- `box_checks::check_boxes` meets its contract: the fault is that of the boxes from k on. Assumes nothing.
-use mathlib.Core.Path.{◌≡◌, refl, sym, ◌∙◌, ap}
+use mathlib.Core.Path.{◌≡◌, sym, ◌∙◌, ap}
 use mathlib.Core.List.{List}
 use Prim.Native.Nat.{ℕ, ◌+◌, ◌*◌, ◌/◌, ◌<◌}
 use native.Mathlib.Omega.{arith}
@@ -7,7 +7,7 @@ use borrow.Author.Tests.{eq-eqb, ne_eqb, le-ltb, lt-ltb}
 use lib.IntN.{ℤ}
 use lib.ListN.{length, drop}
 use Rattle.rounds.specs.Boxes.{boxes_of, box_at}
-use Rattle.rounds.specs.Refusals.{Fault, fault_of, ◌or_else◌, each_box_fault, box_fault, box_list_fault}
+use Rattle.rounds.specs.Refusals.{Fault, ◌or_else◌, each_box_fault, box_fault, box_list_fault}
 use Rattle.rounds.proofs.Accepted.{accepted}
 use Rattle.rounds.proofs.Exits.{passed_fault}
 use Rattle.rounds.proofs.Rows.{box_step, box_none}

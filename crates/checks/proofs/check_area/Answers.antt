@@ -1,9 +1,9 @@
 -- `checks::check_area` meets its contract: the two checks in their order. Assumes nothing.
-use mathlib.Core.Path.{◌≡◌, sym, ◌∙◌, ap}
+use mathlib.Core.Path.{◌≡◌, ◌∙◌, ap}
 use Prim.Native.Nat.{ℕ, ◌*◌, ◌/◌}
 use native.Mathlib.Omega.{arith}
 use lib.ListN.{length}
-use Rattle.rounds.specs.Refusals.{Fault, ◌or_else◌, box_list_fault, buffer_fault, area_fault}
+use Rattle.rounds.specs.Refusals.{Fault, ◌or_else◌, buffer_fault, area_fault}
 use Rattle.rounds.proofs.Exits.{passed_fault, in_turn}
 use Rattle.checks.proofs.check_area.Goals as goal
 
