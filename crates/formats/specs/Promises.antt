@@ -1,30 +1,15 @@
 -- What the reader and the writer promise: the reply, and every number or byte of each lent buffer at exit, refusals too. Definitions only.
-use Rattle.std.specs.Prelude.{ℕ, ◌+◌, ◌*◌, ◌/◌, ◌≡◌, ℤ, length}
+use Rattle.std.specs.Prelude.{Result, ℕ, ◌+◌, ◌*◌, ◌/◌, ◌≡◌, ℤ, length}
 use mathlib.Core.List.{List, [], ◌∷◌, flat_map}
 use Rattle.plane.specs.declared.Point.{Point}
 use Rattle.rounds.specs.Boxes.{boxes_of, plugs_of}
 use Rattle.rounds.specs.declared.Box.{Box}
 use Rattle.rounds.specs.Refusals.{Fault, read_fault, write_fault}
-use Rattle.rounds.specs.Replies.{Reply, result, refusal_reply, reply_under, buffer_under}
+use Rattle.rounds.specs.Replies.{reply_of, reply_under, buffer_under}
+use Rattle.rounds.specs.declared.Refusal.{Refusal}
 use Rattle.formats.specs.Format.{mark_length, box_length, plug_length, file_of}
 use Rattle.formats.specs.Content.{Content, content_of}
 use Rattle.formats.specs.declared.Counts.{Counts}
-use Rattle.formats.specs.declared.Reading.{Reading}
-use Rattle.formats.specs.declared.Reading.TheVariants as Reading'
-use Rattle.formats.specs.declared.Writing.{Writing}
-use Rattle.formats.specs.declared.Writing.TheVariants as Writing'
-
--- ---- replies
-
--- the result, or number and place, for each case of the reader's answer (docs/SCOPE.md 5.3)
-abbrev pub reading_reply : Reading → Reply Counts
-reading_reply (Reading'.Read counts) = result counts
-reading_reply (Reading'.Refused r) = refusal_reply r
-
--- the result, or number and place, for each case of the writer's answer (docs/SCOPE.md 5.4)
-abbrev pub writing_reply : Writing → Reply ℕ
-writing_reply (Writing'.Written bytes) = result bytes
-writing_reply (Writing'.Refused r) = refusal_reply r
 
 -- ---- the reader
 
@@ -47,8 +32,8 @@ reader_fault file boxes plugs =
     read_fault held.fault (length held.boxes) (length held.plugs) (length boxes) (length plugs)
 
 -- a file was read into two lent buffers
-pub record RoundRead (file : List ℕ) (boxesEntry plugsEntry : List ℤ) (reading : Reading) (boxesExit plugsExit : List ℤ) : Type 0 where
-  pub reply : reading_reply reading ≡ reply_under (reader_fault file boxesEntry plugsEntry) (counts_of (content_of file))
+pub record RoundRead (file : List ℕ) (boxesEntry plugsEntry : List ℤ) (reading : Result Counts Refusal) (boxesExit plugsExit : List ℤ) : Type 0 where
+  pub reply : reply_of reading ≡ reply_under (reader_fault file boxesEntry plugsEntry) (counts_of (content_of file))
   pub boxes : boxesExit ≡ buffer_under (reader_fault file boxesEntry plugsEntry) (flat_map edges (content_of file).boxes) boxesEntry
   pub plugs : plugsExit ≡ buffer_under (reader_fault file boxesEntry plugsEntry) (flat_map coordinates (content_of file).plugs) plugsEntry
 
@@ -63,6 +48,6 @@ unfoldable pub writer_fault : List ℤ → List ℤ → List ℕ → Fault
 writer_fault boxes plugs file = write_fault boxes plugs (byte_count boxes plugs) (length file)
 
 -- boxes and plugs were written to a lent buffer of bytes
-pub record RoundWritten (boxes plugs : List ℤ) (fileEntry : List ℕ) (writing : Writing) (fileExit : List ℕ) : Type 0 where
-  pub reply : writing_reply writing ≡ reply_under (writer_fault boxes plugs fileEntry) (byte_count boxes plugs)
+pub record RoundWritten (boxes plugs : List ℤ) (fileEntry : List ℕ) (writing : Result ℕ Refusal) (fileExit : List ℕ) : Type 0 where
+  pub reply : reply_of writing ≡ reply_under (writer_fault boxes plugs fileEntry) (byte_count boxes plugs)
   pub file : fileExit ≡ buffer_under (writer_fault boxes plugs fileEntry) (file_of (boxes_of boxes) (plugs_of plugs)) fileEntry
