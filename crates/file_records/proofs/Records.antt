@@ -7,13 +7,15 @@ use Prim.Native.Nat.{ℕ, ◌+◌, ◌≤◌, ◌<◌}
 use native.Mathlib.Omega.{arith}
 use borrow.Author.Tests.{le-ltb, le-leb, lt-leb, ne_eqb}
 use lib.ListN.{length}
+use Rattle.std.specs.Prelude.{Result, Ok, Err}
 use Rattle.rounds.specs.Refusals.{Fault, none, fault, refusal_fault}
+use Rattle.rounds.specs.declared.Refusal.{Refusal}
 use Rattle.formats.specs.Format.{box_mark, plug_mark, end_mark, first_note_mark, last_note_mark, mark_length, box_length, plug_length, Kind, box_kind, plug_kind, note_kind, end_kind, unknown_kind, kind_of, kind_at, next_at}
 use Rattle.formats.specs.Content.{Content, form_fault, stop, and_then, plugged_by}
 use Rattle.formats.proofs.Scan.{scan, scan_step, goes_on}
 use Rattle.file_records.specs.Records.{refused_or, kind_record, record_of, record_at}
 use Rattle.file_records.specs.declared.Record.{Record}
-use Rattle.file_records.specs.declared.Record.TheVariants.{Box, Plug, Note, End, Refused}
+use Rattle.file_records.specs.declared.Record.TheVariants.{Box, Plug, Note, End}
 
 -- ---- by its mark
 
@@ -45,12 +47,12 @@ record_of_lem file at plugged h e = simp (le-ltb _ _ h, e)
 
 -- ---- what stands from an offset on, by what is found there
 
-abbrev pub follow : List ℕ → ℕ → Bool → Record → Content
-follow file at plugged (Box next) = and_then none box_kind file at (scan file next plugged)
-follow file at plugged (Plug next) = and_then none plug_kind file at (scan file next true)
-follow file at plugged (Note next) = and_then none note_kind file at (scan file next plugged)
-follow file at plugged End = stop none
-follow file at plugged (Refused r) = stop (refusal_fault r)
+abbrev pub follow : List ℕ → ℕ → Bool → Result Record Refusal → Content
+follow file at plugged (Ok (Box next)) = and_then none box_kind file at (scan file next plugged)
+follow file at plugged (Ok (Plug next)) = and_then none plug_kind file at (scan file next true)
+follow file at plugged (Ok (Note next)) = and_then none note_kind file at (scan file next plugged)
+follow file at plugged (Ok End) = stop none
+follow file at plugged (Err r) = stop (refusal_fault r)
 
 follows : (f : Fault) (k : Kind) (file : List ℕ) (at : ℕ) (plugged : Bool) (next : ℕ)
     → and_then f k file at (scan file next (plugged_by k plugged)) ≡ follow file at plugged (refused_or f (kind_record k next))
@@ -68,12 +70,12 @@ unroll file at plugged =
 
 -- ---- where the next record begins
 
-abbrev Onward : List ℕ → ℕ → Record → Type 0
-Onward file at (Box next) = (next ≡ at + box_length) × (next ≤ length file)
-Onward file at (Plug next) = (next ≡ at + plug_length) × (next ≤ length file)
-Onward file at (Note next) = (at < next) × (next ≤ length file)
-Onward file at End = Unit
-Onward file at (Refused r) = Unit
+abbrev Onward : List ℕ → ℕ → Result Record Refusal → Type 0
+Onward file at (Ok (Box next)) = (next ≡ at + box_length) × (next ≤ length file)
+Onward file at (Ok (Plug next)) = (next ≡ at + plug_length) × (next ≤ length file)
+Onward file at (Ok (Note next)) = (at < next) × (next ≤ length file)
+Onward file at (Ok End) = Unit
+Onward file at (Err r) = Unit
 
 onward_under : (f : Fault) (k : Kind) (file : List ℕ) (at : ℕ) → (f ≡ none → (at < next_at k file at) × (next_at k file at ≤ length file))
     → Onward file at (refused_or f (kind_record k (next_at k file at)))
@@ -91,14 +93,15 @@ onward file at plugged = onward_under (form_fault file at plugged) (kind_at file
 
 -- ---- a record that was found, and both of these by it
 
-pub record RecordFound (file : List ℕ) (at : ℕ) (plugged : Bool) (r : Record) : Type 0 where
+pub record RecordFound (file : List ℕ) (at : ℕ) (plugged : Bool) (r : Result Record Refusal) : Type 0 where
   pub is : record_at file at plugged ≡ r
 
-module _ {file : List ℕ} {at : ℕ} {plugged : Bool} {r : Record} where
+module _ {file : List ℕ} {at : ℕ} {plugged : Bool} where
   -- as a call answered, and as a match read the answer
-  pub found : {answer : Record} → answer ≡ record_at file at plugged → answer ≡ r → RecordFound file at plugged r
-  found e m = record { is = sym e ∙ m }
+  pub found : {answer r : Record} → Ok answer ≡ record_at file at plugged → answer ≡ r → RecordFound file at plugged (Ok r)
+  found e m = record { is = sym e ∙ ap Ok m }
 
+module _ {file : List ℕ} {at : ℕ} {plugged : Bool} {r : Result Record Refusal} where
   pub rest_is : RecordFound file at plugged r → scan file at plugged ≡ follow file at plugged r
   rest_is f = unroll file at plugged ∙ ap (follow file at plugged) f.is
 

@@ -1,15 +1,16 @@
 -- What stands at an offset of a file, and what a write leaves. Definitions only.
-use Rattle.std.specs.Prelude.{ℕ, ◌+◌, Bool, List, ◌++◌, length, take, drop}
+use Rattle.std.specs.Prelude.{Result, Ok, Err, ℕ, ◌+◌, Bool, List, ◌++◌, length, take, drop}
 use Rattle.rounds.specs.Refusals.{Fault, none, fault}
+use Rattle.rounds.specs.declared.Refusal.{Refusal}
 use Rattle.formats.specs.Format.{Kind, box_kind, plug_kind, note_kind, end_kind, unknown_kind, kind_at, next_at}
 use Rattle.formats.specs.Content.{kind_fault, form_fault}
 use Rattle.file_records.specs.declared.Record.{Record}
-use Rattle.file_records.specs.declared.Record.TheVariants.{Box, Plug, Note, End, Refused}
+use Rattle.file_records.specs.declared.Record.TheVariants.{Box, Plug, Note, End}
 
--- a refusal under a fault, and a record under none
-abbrev pub refused_or : Fault → Record → Record
-refused_or (fault cause place) found = Refused (record { cause = cause; place = place })
-refused_or none found = found
+-- a refusal under a fault, and what was found under none
+abbrev pub refused_or : {A : Type 0} → Fault → A → Result A Refusal
+refused_or (fault cause place) found = Err (record { cause = cause; place = place })
+refused_or none found = Ok found
 
 -- the record of a kind, with the offset after it
 abbrev pub kind_record : Kind → ℕ → Record
@@ -20,11 +21,11 @@ kind_record end_kind next = End
 kind_record unknown_kind next = End
 
 -- what stands at an offset where a mark of a kind does
-abbrev pub record_of : Kind → List ℕ → ℕ → Bool → Record
+abbrev pub record_of : Kind → List ℕ → ℕ → Bool → Result Record Refusal
 record_of kind file at plugged = refused_or (kind_fault kind file at plugged) (kind_record kind (next_at kind file at))
 
 -- what stands at an offset
-unfoldable pub record_at : List ℕ → ℕ → Bool → Record
+unfoldable pub record_at : List ℕ → ℕ → Bool → Result Record Refusal
 record_at file at plugged = refused_or (form_fault file at plugged) (kind_record (kind_at file at) (next_at (kind_at file at) file at))
 
 -- a list with new elements over those from an offset on

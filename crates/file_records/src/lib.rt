@@ -5,7 +5,6 @@
 ghost use Rattle.std.specs.Prelude.{◌+◌, ◌≤◌, ◌<◌, false, ◌≡◌, length};
 ghost use Rattle.std.specs.Int.{w32};
 ghost use Rattle.std.proofs.Common.{of_z, to_z};
-ghost use Rattle.plane.specs.Points.{point};
 ghost use Rattle.formats.specs.Format.{mark_length, box_length, plug_length, note_kind};
 ghost use Rattle.formats.specs.Format.{mark_bytes, number_bytes, box_record, plug_record};
 ghost use Rattle.formats.specs.Format.{mark_at, number_at, file_box_at, file_plug_at};
@@ -13,6 +12,7 @@ ghost use Rattle.formats.specs.Content.{stops_before};
 ghost use Rattle.formats.specs.Promises.{edges, coordinates};
 ghost use Rattle.file_records.specs.Records.{refused_or, record_of, record_at, over};
 
+use plane::Point;
 use rounds::{Box, Cause, Refusal};
 
 // A box's mark.
@@ -57,14 +57,13 @@ const SIGN_BIT: u32 = 2147483648;
 // The greatest bits, those of -1.
 const ALL_BITS: u32 = 4294967295;
 
-// What stands at an offset of a file: a record, with the offset after it, or what the file is turned back by.
-#[derive(Clone, Copy)]
+// A record at an offset of a file, with the offset after it.
+#[derive(Clone, Copy, Debug, PartialEq, Eq)]
 pub enum Record {
     Box(usize),
     Plug(usize),
     Note(usize),
     End,
-    Refused(Refusal),
 }
 
 // The mark at an offset.
@@ -75,61 +74,72 @@ fn mark_at(file: &[u8], at: usize) -> u32
     (file[at] as u32) * BYTE + (file[at + 1] as u32)
 }
 
-// A refusal in place of a record.
-fn refused(cause: Cause, place: usize) -> Record
-    ensures { result ≡ Record.Refused (record { cause = cause; place = place }) }
-{
-    Record::Refused(Refusal { cause, place })
-}
-
 // A record that ends at `end`, where the file reaches so far.
-fn whole(file: &[u8], at: usize, end: usize, found: Record) -> Record
+fn whole(file: &[u8], at: usize, end: usize, found: Record) -> Result<Record, Refusal>
     ensures { result ≡ refused_or (stops_before end file.now at) found }
 {
     if file.len() < end {
-        return refused(Cause::CutShort, at);
+        return Err(Refusal {
+            cause: Cause::CutShort,
+            place: at,
+        });
     }
-    found
+    Ok(found)
 }
 
 // The note at an offset, where its mark stands.
-fn note_at(file: &[u8], at: usize) -> Record
+fn note_at(file: &[u8], at: usize) -> Result<Record, Refusal>
     requires { at + mark_length ≤ length file.now }
     ensures { result ≡ record_of note_kind file.now at false }
 {
     let body = at + NOTE_HEAD_LENGTH;
     if file.len() < body {
-        return refused(Cause::CutShort, at);
+        return Err(Refusal {
+            cause: Cause::CutShort,
+            place: at,
+        });
     }
     let end = body + (file[at + MARK_LENGTH] as usize);
     whole(file, at, end, Record::Note(end))
 }
 
 // What stands at an offset; `plugged` says that a plug stands before it.
-pub fn next_record(file: &[u8], at: usize, plugged: bool) -> Record
+pub fn next_record(file: &[u8], at: usize, plugged: bool) -> Result<Record, Refusal>
     requires { at ≤ length file.now }
     ensures { result ≡ record_at file.now at plugged }
 {
     if file.len() < at + MARK_LENGTH {
-        return refused(Cause::CutShort, at);
+        return Err(Refusal {
+            cause: Cause::CutShort,
+            place: at,
+        });
     }
     let mark = mark_at(file, at);
     match mark {
         BOX_MARK => {
             if plugged {
-                return refused(Cause::BoxAfterPlug, at);
+                return Err(Refusal {
+                    cause: Cause::BoxAfterPlug,
+                    place: at,
+                });
             }
             whole(file, at, at + BOX_LENGTH, Record::Box(at + BOX_LENGTH))
         }
         PLUG_MARK => whole(file, at, at + PLUG_LENGTH, Record::Plug(at + PLUG_LENGTH)),
         END_MARK => {
             if at + MARK_LENGTH < file.len() {
-                return refused(Cause::ByteAfterEnd, at + MARK_LENGTH);
+                return Err(Refusal {
+                    cause: Cause::ByteAfterEnd,
+                    place: at + MARK_LENGTH,
+                });
             }
-            Record::End
+            Ok(Record::End)
         }
         FIRST_NOTE_MARK..=LAST_NOTE_MARK => note_at(file, at),
-        _ => refused(Cause::UnknownMark, at),
+        _ => Err(Refusal {
+            cause: Cause::UnknownMark,
+            place: at,
+        }),
     }
 }
 
@@ -218,12 +228,12 @@ pub fn write_box(b: Box, file: &mut [u8], at: usize)
 }
 
 // Writes a plug at an offset.
-pub fn write_plug(east: i32, north: i32, file: &mut [u8], at: usize)
+pub fn write_plug(plug: Point, file: &mut [u8], at: usize)
     requires { at + plug_length ≤ length file.old }
-    ensures { file.new ≡ over file.old at (plug_record (point east north)) }
+    ensures { file.new ≡ over file.old at (plug_record plug) }
 {
     write_mark(PLUG_MARK, file, at);
     let from = at + MARK_LENGTH;
-    write_number(east, file, from);
-    write_number(north, file, from + 4);
+    write_number(plug.east, file, from);
+    write_number(plug.north, file, from + 4);
 }

@@ -6,12 +6,11 @@ use Prim.Native.Nat.{ℕ, ◌+◌, ◌≤◌}
 use native.Mathlib.Omega.{arith}
 use lib.ListN.{length}
 use borrow.Author.Tests.{lt-ltb, le-ltb}
-use Rattle.formats.specs.Format.{box_mark, plug_mark, end_mark, mark_length, mark_at, Kind, box_kind, plug_kind, end_kind, unknown_kind, next_at, kind_of}
+use Rattle.formats.specs.Format.{box_mark, plug_mark, end_mark, mark_length, mark_at, Kind, box_kind, plug_kind, end_kind, next_at, kind_of}
 use Rattle.formats.specs.Content.{kind_fault, form_fault}
 use Rattle.file_records.specs.Records.{record_of, record_at}
 use Rattle.file_records.proofs.Records.{note_mark, low_mark, high_mark, record_of_lem}
 use Rattle.file_records.proofs.next_record.Goals as goal
-use Rattle.file_records.proofs.next_record.Goals.{in_default-via-then-mark-lt23552, in_default-via-else-mark-lt23552+else-mark-lt23808}
 
 -- what stands there, by the kind of the mark that was read
 by_kind : (file : List ℕ) (at : ℕ) (plugged : Bool) {mark : ℕ} {k : Kind} → at + mark_length ≤ length file → mark ≡ mark_at file at → kind_of mark ≡ k
@@ -33,19 +32,17 @@ end_found e = ap kind_of e
 
 pub returns-then-file-at : goal.returns-then-file-at
 unfolding record_at form_fault
-returns-then-file-at c = c.refused.ensures ∙ simp (lt-ltb _ _ c.if-file-at.true)
+returns-then-file-at c = simp (lt-ltb _ _ c.if-file-at.true)
 
 pub returns-then-plugged : goal.returns-then-plugged
 unfolding kind_fault next_at
 returns-then-plugged c =
-    c.refused-then-plugged.ensures
-    ∙ sym (by_kind c.args.file.now c.args.at c.args.plugged c.if-file-at.false c.mark_at-mark.ensures (box_found c.in-23297.is) ∙ simp c.if-plugged.true)
+    sym (by_kind c.args.file.now c.args.at c.args.plugged c.if-file-at.false c.mark_at-mark.ensures (box_found c.in-23297.is) ∙ simp c.if-plugged.true)
 
 pub returns-then-at-file : goal.returns-then-at-file
 unfolding kind_fault next_at
 returns-then-at-file c =
-    c.refused-then-at-file.ensures
-    ∙ sym (by_kind c.args.file.now c.args.at c.args.plugged c.if-file-at.false c.mark_at-mark.ensures (end_found c.in-23296.is) ∙ simp (lt-ltb _ _ c.if-at-file.true))
+    sym (by_kind c.args.file.now c.args.at c.args.plugged c.if-file-at.false c.mark_at-mark.ensures (end_found c.in-23296.is) ∙ simp (lt-ltb _ _ c.if-at-file.true))
 
 pub returns-else-plugged : goal.returns-else-plugged
 unfolding kind_fault next_at
@@ -69,15 +66,21 @@ returns-in-23552-to-23807 c =
     c.note_at.ensures
     ∙ sym (by_kind c.args.file.now c.args.at c.args.plugged c.if-file-at.false c.mark_at-mark.ensures (note_mark c.mark_at-mark.result (omega arith) (omega arith)))
 
+-- a mark below those of notes, and one above them
 pub returns-in_default : goal.returns-in_default
-unfolding kind_fault next_at
+unfolding kind_fault
 returns-in_default c =
     let mark = c.mark_at-mark.result in
     let n₁ : mark ≡ box_mark → ⊥ = omega arith in
     let n₂ : mark ≡ plug_mark → ⊥ = omega arith in
     let n₃ : mark ≡ end_mark → ⊥ = omega arith in
-    let found : kind_of mark ≡ unknown_kind = elim c.in_default.branch [
-      | in_default-via-then-mark-lt23552 w ↦ low_mark mark n₁ n₂ n₃ (omega arith)
-      | in_default-via-else-mark-lt23552+else-mark-lt23808 w ↦ high_mark mark n₁ n₂ n₃ (omega arith) (omega arith)
-    ] in
-    c.refused-in_default.ensures ∙ sym (by_kind c.args.file.now c.args.at c.args.plugged c.if-file-at.false c.mark_at-mark.ensures found)
+    sym (by_kind c.args.file.now c.args.at c.args.plugged c.if-file-at.false c.mark_at-mark.ensures (low_mark mark n₁ n₂ n₃ (omega arith)))
+
+pub returns-in_default-2 : goal.returns-in_default-2
+unfolding kind_fault
+returns-in_default-2 c =
+    let mark = c.mark_at-mark.result in
+    let n₁ : mark ≡ box_mark → ⊥ = omega arith in
+    let n₂ : mark ≡ plug_mark → ⊥ = omega arith in
+    let n₃ : mark ≡ end_mark → ⊥ = omega arith in
+    sym (by_kind c.args.file.now c.args.at c.args.plugged c.if-file-at.false c.mark_at-mark.ensures (high_mark mark n₁ n₂ n₃ (omega arith) (omega arith)))

@@ -1,5 +1,4 @@
 -- `file_records::note_at` meets its contract. A byte is below 256. Assumes nothing.
-use mathlib.Core.Path.{◌∙◌}
 use Prim.Native.Nat.{◌+◌, ◌<◌}
 use native.Mathlib.Omega.{arith}
 use borrow.Author.Tests.{lt-ltb}
@@ -13,7 +12,7 @@ unfolding kind_fault next_at
 returns-then-file-body c =
     let a = c.args in
     let h : length a.file.now < a.at + 3 + byte_at a.file.now (a.at + 2) = omega arith in
-    c.refused.ensures ∙ simp (lt-ltb _ _ h)
+    simp (lt-ltb _ _ h)
 
 pub overflow_cast-end : goal.overflow_cast-end
 overflow_cast-end c = omega (arith, c.shared_slice_known-2-1.given (c.args.at + 2))
