@@ -1,4 +1,5 @@
 -- From an answer that keeps its promise to the struct that it is given as. Assumes nothing.
+use Rattle.std.specs.Prelude.{Err}
 use mathlib.Core.Path.{◌≡◌, refl, sym, ◌∙◌, ap, subst}
 use borrow.Author.Tests.{ne_eqb}
 use Rattle.rounds.specs.Refusals.{number_of}
@@ -30,5 +31,5 @@ cause_back Cause.ByteAfterEnd = refl
 cause_back Cause.InputTooLong = refl
 
 -- the number and the place of a refusal mean that refusal
-pub refused_back : {A : Type 0} (r : Refusal) (refusal : Refusal → A) (a : A) → unless_refused (number_of r.cause) r.place refusal a ≡ refusal r
-refused_back r refusal a = rw (ne_eqb (number_of r.cause) 0 (number_positive r.cause), cause_back r.cause)
+pub refused_back : {A : Type 0} (r : Refusal) (a : A) → unless_refused (number_of r.cause) r.place a ≡ Err r
+refused_back r a = rw (ne_eqb (number_of r.cause) 0 (number_positive r.cause), cause_back r.cause)

@@ -1,5 +1,5 @@
 -- What an exported call promises of the struct that it returns. Definitions only.
-use Rattle.std.specs.Prelude.{◌≡◌, cond, ℕ, eqb}
+use Rattle.std.specs.Prelude.{Result, Ok, Err, ◌≡◌, cond, ℕ, eqb}
 use Rattle.rounds.specs.declared.Cause.{Cause}
 use Rattle.rounds.specs.declared.Refusal.{Refusal}
 
@@ -23,6 +23,6 @@ cause_meant n =
     (cond (eqb n 10) Cause.BoxAfterPlug
     (cond (eqb n 11) Cause.ByteAfterEnd Cause.InputTooLong))))))))))
 
--- a result where no number of a cause is given, else a refusal by that cause with the place
-abbrev pub unless_refused : {A : Type 0} → ℕ → ℕ → (Refusal → A) → A → A
-unless_refused refused place refusal result = cond (eqb refused 0) result (refusal (record { cause = cause_meant refused; place = place }))
+-- the answer that a struct's first two numbers tell: a result where no number of a cause is given, else a refusal by that cause with the place
+abbrev pub unless_refused : {A : Type 0} → ℕ → ℕ → A → Result A Refusal
+unless_refused refused place result = cond (eqb refused 0) (Ok result) (Err (record { cause = cause_meant refused; place = place }))

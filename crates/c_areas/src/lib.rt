@@ -5,11 +5,12 @@
 ghost use Rattle.std.specs.Prelude.{◌≡◌};
 ghost use Rattle.c_areas.specs.Areas.{outer_struct, corners_struct};
 
-use areas::{CornersReply, OuterReply};
+use polygons::VertexCounts;
+use rounds::Refusal;
 
 // The answer of feltloquat_outer_polygon.
 #[repr(C)]
-#[derive(Clone, Copy)]
+#[derive(Clone, Copy, Default)]
 pub struct OuterAnswer {
     pub refused: u32,
     pub place: usize,
@@ -18,7 +19,7 @@ pub struct OuterAnswer {
 
 // The answer of feltloquat_corner_polygons.
 #[repr(C)]
-#[derive(Clone, Copy)]
+#[derive(Clone, Copy, Default)]
 pub struct CornersAnswer {
     pub refused: u32,
     pub place: usize,
@@ -28,50 +29,43 @@ pub struct CornersAnswer {
     pub northwest: usize,
 }
 
-// The reply of the outer polygon's call as numbers.
-pub fn outer_struct(reply: OuterReply) -> OuterAnswer
-    ensures { result ≡ outer_struct reply }
-{
-    match reply {
-        OuterReply::Vertices(count) => OuterAnswer {
-            refused: 0,
-            place: 0,
-            vertices: count,
-        },
-        OuterReply::Refused(refusal) => {
-            let cause = refusal.cause;
-            OuterAnswer {
-                refused: causes::number_of(cause),
+impl From<Result<usize, Refusal>> for OuterAnswer {
+    ghost from_gives = { λ reply answer. answer ≡ outer_struct reply };
+
+    fn from(reply: Result<usize, Refusal>) -> OuterAnswer {
+        match reply {
+            Ok(vertices) => OuterAnswer {
+                refused: 0,
+                place: 0,
+                vertices,
+            },
+            Err(refusal) => OuterAnswer {
+                refused: u32::from(refusal.cause),
                 place: refusal.place,
                 vertices: 0,
-            }
+            },
         }
     }
 }
 
-// The reply of the corner polygons' call as numbers.
-pub fn corners_struct(reply: CornersReply) -> CornersAnswer
-    ensures { result ≡ corners_struct reply }
-{
-    match reply {
-        CornersReply::Vertices(counts) => CornersAnswer {
-            refused: 0,
-            place: 0,
-            southwest: counts.southwest,
-            southeast: counts.southeast,
-            northeast: counts.northeast,
-            northwest: counts.northwest,
-        },
-        CornersReply::Refused(refusal) => {
-            let cause = refusal.cause;
-            CornersAnswer {
-                refused: causes::number_of(cause),
+impl From<Result<VertexCounts, Refusal>> for CornersAnswer {
+    ghost from_gives = { λ reply answer. answer ≡ corners_struct reply };
+
+    fn from(reply: Result<VertexCounts, Refusal>) -> CornersAnswer {
+        match reply {
+            Ok(counts) => CornersAnswer {
+                refused: 0,
+                place: 0,
+                southwest: counts.southwest,
+                southeast: counts.southeast,
+                northeast: counts.northeast,
+                northwest: counts.northwest,
+            },
+            Err(refusal) => CornersAnswer {
+                refused: u32::from(refusal.cause),
                 place: refusal.place,
-                southwest: 0,
-                southeast: 0,
-                northeast: 0,
-                northwest: 0,
-            }
+                ..CornersAnswer::default()
+            },
         }
     }
 }

@@ -5,11 +5,12 @@
 ghost use Rattle.std.specs.Prelude.{◌≡◌};
 ghost use Rattle.c_files.specs.Files.{read_struct, write_struct};
 
-use formats::{Reading, Writing};
+use formats::Counts;
+use rounds::Refusal;
 
 // The answer of feltloquat_read_round.
 #[repr(C)]
-#[derive(Clone, Copy)]
+#[derive(Clone, Copy, Default)]
 pub struct ReadAnswer {
     pub refused: u32,
     pub place: usize,
@@ -19,53 +20,48 @@ pub struct ReadAnswer {
 
 // The answer of feltloquat_write_round.
 #[repr(C)]
-#[derive(Clone, Copy)]
+#[derive(Clone, Copy, Default)]
 pub struct WriteAnswer {
     pub refused: u32,
     pub place: usize,
     pub bytes: usize,
 }
 
-// The reader's answer as numbers.
-pub fn read_struct(reading: Reading) -> ReadAnswer
-    ensures { result ≡ read_struct reading }
-{
-    match reading {
-        Reading::Read(counts) => ReadAnswer {
-            refused: 0,
-            place: 0,
-            boxes: counts.boxes,
-            plugs: counts.plugs,
-        },
-        Reading::Refused(refusal) => {
-            let cause = refusal.cause;
-            ReadAnswer {
-                refused: causes::number_of(cause),
+impl From<Result<Counts, Refusal>> for ReadAnswer {
+    ghost from_gives = { λ reading answer. answer ≡ read_struct reading };
+
+    fn from(reading: Result<Counts, Refusal>) -> ReadAnswer {
+        match reading {
+            Ok(counts) => ReadAnswer {
+                refused: 0,
+                place: 0,
+                boxes: counts.boxes,
+                plugs: counts.plugs,
+            },
+            Err(refusal) => ReadAnswer {
+                refused: u32::from(refusal.cause),
                 place: refusal.place,
-                boxes: 0,
-                plugs: 0,
-            }
+                ..ReadAnswer::default()
+            },
         }
     }
 }
 
-// The writer's answer as numbers.
-pub fn write_struct(writing: Writing) -> WriteAnswer
-    ensures { result ≡ write_struct writing }
-{
-    match writing {
-        Writing::Written(bytes) => WriteAnswer {
-            refused: 0,
-            place: 0,
-            bytes,
-        },
-        Writing::Refused(refusal) => {
-            let cause = refusal.cause;
-            WriteAnswer {
-                refused: causes::number_of(cause),
+impl From<Result<usize, Refusal>> for WriteAnswer {
+    ghost from_gives = { λ writing answer. answer ≡ write_struct writing };
+
+    fn from(writing: Result<usize, Refusal>) -> WriteAnswer {
+        match writing {
+            Ok(bytes) => WriteAnswer {
+                refused: 0,
+                place: 0,
+                bytes,
+            },
+            Err(refusal) => WriteAnswer {
+                refused: u32::from(refusal.cause),
                 place: refusal.place,
                 bytes: 0,
-            }
+            },
         }
     }
 }
