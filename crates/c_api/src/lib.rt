@@ -6,7 +6,8 @@
 ghost use Rattle.std.specs.Prelude.{◌≡◌};
 ghost use Rattle.plane.specs.Points.{point};
 ghost use Rattle.areas.specs.Areas.{OuterPromise, CornersPromise, OuterAnswered, CornersAnswered};
-ghost use Rattle.verdicts.specs.Verdicts.{VerdictIs, word_reply, verdict_on};
+ghost use Rattle.rounds.specs.Replies.{reply_of};
+ghost use Rattle.verdicts.specs.Verdicts.{VerdictIs, verdict_on};
 ghost use Rattle.verdicts.specs.Answers.{verdict_of, word_only};
 ghost use Rattle.records.specs.Records.{edges_of};
 ghost use Rattle.formats.specs.Promises.{RoundRead, RoundWritten};
@@ -19,6 +20,7 @@ ghost use Rattle.c_verdicts.specs.Verdicts.{verdict_struct, verdict_meant, word_
 use c_areas::{CornersAnswer, OuterAnswer};
 use c_files::{ReadAnswer, WriteAnswer};
 use c_verdicts::{VerdictAnswer, WordAnswer};
+use plane::Point;
 use printing::TEXT_LENGTH;
 use rounds::Box;
 
@@ -30,7 +32,7 @@ pub extern "C" fn feltloquat_outer_polygon(boxes: &[i32], answer: &mut [i32]) ->
     ensures answered { Answered outer_struct outer_meant (λ reply.
         OuterAnswered boxes.now answer.old reply answer.new) result }
 {
-    c_areas::outer_struct(areas::outer_polygon(boxes, answer))
+    OuterAnswer::from(areas::outer_polygon(boxes, answer))
 }
 
 // The corner polygons SW, SE, NE, NW of the boxes, one behind another in answer.
@@ -41,7 +43,7 @@ pub extern "C" fn feltloquat_corner_polygons(boxes: &[i32], answer: &mut [i32]) 
     ensures answered { Answered corners_struct corners_meant (λ reply.
         CornersAnswered boxes.now answer.old reply answer.new) result }
 {
-    c_areas::corners_struct(areas::corner_polygons(boxes, answer))
+    CornersAnswer::from(areas::corner_polygons(boxes, answer))
 }
 
 // The verdict on the plug at an east and a north, with its reasons where it is undecided.
@@ -50,17 +52,17 @@ pub extern "C" fn feltloquat_verdict(boxes: &[i32], east: i32, north: i32) -> Ve
     ensures { Answered verdict_struct verdict_meant (VerdictIs boxes.now (point east north)) result
         × (result ≡ verdict_struct (verdict_of boxes.now (point east north))) }
 {
-    c_verdicts::verdict_struct(verdicts::verdict_on(boxes, east, north))
+    VerdictAnswer::from(verdicts::verdict_on(boxes, Point { east, north }))
 }
 
 // The verdict's word alone.
 #[unsafe(no_mangle)]
 pub extern "C" fn feltloquat_word(boxes: &[i32], east: i32, north: i32) -> WordAnswer
     ensures { Answered word_struct word_meant (λ reply.
-        word_reply reply ≡ verdict_on boxes.now (point east north)) result
+        reply_of reply ≡ verdict_on boxes.now (point east north)) result
         × (result ≡ word_struct (word_only (verdict_of boxes.now (point east north)))) }
 {
-    c_verdicts::word_struct(verdicts::word_on(boxes, east, north))
+    WordAnswer::from(verdicts::word_on(boxes, Point { east, north }))
 }
 
 // The verdict for boxes lent as a list of records.
@@ -74,7 +76,7 @@ pub extern "C" fn feltloquat_verdict_on_records(
         (VerdictIs (edges_of boxes.now) (point east north)) result
         × (result ≡ verdict_struct (verdict_of (edges_of boxes.now) (point east north))) }
 {
-    c_verdicts::verdict_struct(records::verdict_on(boxes, east, north))
+    VerdictAnswer::from(records::verdict_on(boxes, Point { east, north }))
 }
 
 // Reads a round file into a buffer of boxes and one of plugs.
@@ -88,7 +90,7 @@ pub extern "C" fn feltloquat_read_round(
         RoundRead file.now boxes.old plugs.old reading
         boxes.new plugs.new) result }
 {
-    c_files::read_struct(files::read_round(file, boxes, plugs))
+    ReadAnswer::from(files::read_round(file, boxes, plugs))
 }
 
 // Writes a round as a file without notes.
@@ -101,7 +103,7 @@ pub extern "C" fn feltloquat_write_round(
     ensures { Answered write_struct write_meant (λ writing.
         RoundWritten boxes.now plugs.now file.old writing file.new) result }
 {
-    c_files::write_struct(files::write_round(boxes, plugs, file))
+    WriteAnswer::from(files::write_round(boxes, plugs, file))
 }
 
 // The text that the printing program prints for a round file, and how many bytes it has.

@@ -1,15 +1,14 @@
 -- Verdicts and words as numbers: what each case is given as, and what a struct means. Definitions only.
-use Rattle.std.specs.Prelude.{cond, ℕ, eqb, pos}
+use Rattle.std.specs.Prelude.{Result, Ok, Err, cond, ℕ, eqb, pos}
 use Rattle.rounds.specs.declared.Corner.{Corner}
 use Rattle.rounds.specs.declared.Corner.TheVariants.{SouthWest, SouthEast, NorthEast, NorthWest}
 use Rattle.rounds.specs.declared.Entry.{Entry}
 use Rattle.rounds.specs.declared.Reasons.{Reasons}
 use Rattle.verdicts.specs.declared.Verdict.{Verdict}
 use Rattle.verdicts.specs.declared.Verdict.TheVariants as Verdict'
-use Rattle.verdicts.specs.declared.WordReply.{WordReply}
-use Rattle.verdicts.specs.declared.WordReply.TheVariants as WordReply'
 use Rattle.rounds.specs.declared.Word.{Word}
 use Rattle.rounds.specs.declared.Word.TheVariants.{Inside, Outside, Undecided}
+use Rattle.rounds.specs.declared.Refusal.{Refusal}
 use Rattle.rounds.specs.Refusals.{number_of}
 use Rattle.c_answers.specs.Answers.{unless_refused}
 use Rattle.c_verdicts.specs.declared.EntryAnswer.{EntryAnswer}
@@ -38,13 +37,13 @@ word_number Outside = 2
 word_number Undecided = 3
 
 -- the struct for each case of the reply of a word's call
-abbrev pub word_struct : WordReply → WordAnswer
-word_struct (WordReply'.Given word) = record { refused = 0; place = 0; word = word_number word }
-word_struct (WordReply'.Refused r) = record { refused = number_of r.cause; place = r.place; word = 0 }
+abbrev pub word_struct : Result Word Refusal → WordAnswer
+word_struct (Ok word) = record { refused = 0; place = 0; word = word_number word }
+word_struct (Err r) = record { refused = number_of r.cause; place = r.place; word = 0 }
 
 -- the reply that a struct means
-abbrev pub word_meant : WordAnswer → WordReply
-word_meant a = unless_refused a.refused a.place WordReply'.Refused (WordReply'.Given (by_word a.word Inside Outside Undecided))
+abbrev pub word_meant : WordAnswer → Result Word Refusal
+word_meant a = unless_refused a.refused a.place (by_word a.word Inside Outside Undecided)
 
 -- an entry's struct, and the entry that a struct means
 abbrev pub entry_struct : Entry → EntryAnswer
@@ -98,14 +97,12 @@ reasons_meant a =
     }
 
 -- the struct for each case of a verdict
-abbrev pub verdict_struct : Verdict → VerdictAnswer
-verdict_struct Verdict'.Inside = plain_struct 0 0 1
-verdict_struct Verdict'.Outside = plain_struct 0 0 2
-verdict_struct (Verdict'.Undecided r) = reasoned_struct r
-verdict_struct (Verdict'.Refused r) = plain_struct (number_of r.cause) r.place 0
+abbrev pub verdict_struct : Result Verdict Refusal → VerdictAnswer
+verdict_struct (Ok Verdict'.Inside) = plain_struct 0 0 1
+verdict_struct (Ok Verdict'.Outside) = plain_struct 0 0 2
+verdict_struct (Ok (Verdict'.Undecided r)) = reasoned_struct r
+verdict_struct (Err r) = plain_struct (number_of r.cause) r.place 0
 
 -- the verdict that a struct means
-abbrev pub verdict_meant : VerdictAnswer → Verdict
-verdict_meant a =
-    unless_refused a.refused a.place Verdict'.Refused
-    (by_word a.word Verdict'.Inside Verdict'.Outside (Verdict'.Undecided (reasons_meant a)))
+abbrev pub verdict_meant : VerdictAnswer → Result Verdict Refusal
+verdict_meant a = unless_refused a.refused a.place (by_word a.word Verdict'.Inside Verdict'.Outside (Verdict'.Undecided (reasons_meant a)))

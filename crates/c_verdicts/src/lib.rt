@@ -3,15 +3,14 @@
 #![tactic(auto)]
 
 ghost use Rattle.std.specs.Prelude.{◌≡◌};
-ghost use Rattle.c_verdicts.specs.Verdicts.{corner_number, entry_struct, plain_struct, reasoned_struct};
-ghost use Rattle.c_verdicts.specs.Verdicts.{verdict_struct, word_number, word_struct};
+ghost use Rattle.c_verdicts.specs.Verdicts.{entry_struct, reasoned_struct, verdict_struct, word_struct};
 
-use rounds::{Corner, Entry, Reasons, Word};
-use verdicts::{Verdict, WordReply};
+use rounds::{Entry, Reasons, Refusal, Word};
+use verdicts::Verdict;
 
 // An entry of the second driver's reason.
 #[repr(C)]
-#[derive(Clone, Copy)]
+#[derive(Clone, Copy, Default)]
 pub struct EntryAnswer {
     pub number: usize,
     pub corner: u32,
@@ -20,7 +19,7 @@ pub struct EntryAnswer {
 
 // The answer of feltloquat_verdict.
 #[repr(C)]
-#[derive(Clone, Copy)]
+#[derive(Clone, Copy, Default)]
 pub struct VerdictAnswer {
     pub refused: u32,
     pub place: usize,
@@ -35,124 +34,79 @@ pub struct VerdictAnswer {
 
 // The answer of feltloquat_word.
 #[repr(C)]
-#[derive(Clone, Copy)]
+#[derive(Clone, Copy, Default)]
 pub struct WordAnswer {
     pub refused: u32,
     pub place: usize,
     pub word: u32,
 }
 
-// The number of a corner: SW 0, SE 1, NE 2, NW 3.
-fn corner_number(corner: Corner) -> u32
-    ensures { result ≡ corner_number corner }
-{
-    match corner {
-        Corner::SouthWest => 0,
-        Corner::SouthEast => 1,
-        Corner::NorthEast => 2,
-        Corner::NorthWest => 3,
-    }
-}
+impl From<Entry> for EntryAnswer {
+    ghost from_gives = { λ entry answer. answer ≡ entry_struct entry };
 
-// An entry as numbers.
-fn entry_struct(entry: Entry) -> EntryAnswer
-    ensures { result ≡ entry_struct entry }
-{
-    let corner = entry.corner;
-    EntryAnswer {
-        number: entry.number,
-        corner: corner_number(corner),
-        weight: entry.weight,
-    }
-}
-
-// A verdict without reasons as numbers.
-fn plain_struct(refused: u32, place: usize, word: u32) -> VerdictAnswer
-    ensures { result ≡ plain_struct refused place word }
-{
-    let none = EntryAnswer {
-        number: 0,
-        corner: 0,
-        weight: 0,
-    };
-    VerdictAnswer {
-        refused,
-        place,
-        word,
-        corner: 0,
-        east: 0,
-        north: 0,
-        first: none,
-        second: none,
-        third: none,
-    }
-}
-
-// Undecided with its reasons as numbers.
-fn reasoned_struct(reasons: Reasons) -> VerdictAnswer
-    ensures { result ≡ reasoned_struct reasons }
-{
-    let direction = reasons.direction;
-    let corner = direction.corner;
-    let first = reasons.first;
-    let second = reasons.second;
-    let third = reasons.third;
-    VerdictAnswer {
-        refused: 0,
-        place: 0,
-        word: 3,
-        corner: corner_number(corner),
-        east: direction.east,
-        north: direction.north,
-        first: entry_struct(first),
-        second: entry_struct(second),
-        third: entry_struct(third),
-    }
-}
-
-// A verdict as numbers.
-pub fn verdict_struct(verdict: Verdict) -> VerdictAnswer
-    ensures { result ≡ verdict_struct verdict }
-{
-    match verdict {
-        Verdict::Inside => plain_struct(0, 0, 1),
-        Verdict::Outside => plain_struct(0, 0, 2),
-        Verdict::Undecided(reasons) => reasoned_struct(reasons),
-        Verdict::Refused(refusal) => {
-            let cause = refusal.cause;
-            plain_struct(causes::number_of(cause), refusal.place, 0)
+    fn from(entry: Entry) -> EntryAnswer {
+        EntryAnswer {
+            number: entry.number,
+            corner: entry.corner as u32,
+            weight: entry.weight,
         }
     }
 }
 
-// The number of a word: inside 1, outside 2, undecided 3.
-fn word_number(word: Word) -> u32
-    ensures { result ≡ word_number word }
-{
-    match word {
-        Word::Inside => 1,
-        Word::Outside => 2,
-        Word::Undecided => 3,
+// Undecided with its reasons as numbers.
+impl From<Reasons> for VerdictAnswer {
+    ghost from_gives = { λ reasons answer. answer ≡ reasoned_struct reasons };
+
+    fn from(reasons: Reasons) -> VerdictAnswer {
+        let direction = reasons.direction;
+        VerdictAnswer {
+            refused: 0,
+            place: 0,
+            word: Word::Undecided as u32,
+            corner: direction.corner as u32,
+            east: direction.east,
+            north: direction.north,
+            first: EntryAnswer::from(reasons.first),
+            second: EntryAnswer::from(reasons.second),
+            third: EntryAnswer::from(reasons.third),
+        }
     }
 }
 
-// The reply of a word's call as numbers.
-pub fn word_struct(reply: WordReply) -> WordAnswer
-    ensures { result ≡ word_struct reply }
-{
-    match reply {
-        WordReply::Given(word) => WordAnswer {
-            refused: 0,
-            place: 0,
-            word: word_number(word),
-        },
-        WordReply::Refused(refusal) => {
-            let cause = refusal.cause;
-            WordAnswer {
-                refused: causes::number_of(cause),
+impl From<Result<Verdict, Refusal>> for VerdictAnswer {
+    ghost from_gives = { λ verdict answer. answer ≡ verdict_struct verdict };
+
+    fn from(verdict: Result<Verdict, Refusal>) -> VerdictAnswer {
+        match verdict {
+            Ok(Verdict::Undecided(reasons)) => VerdictAnswer::from(reasons),
+            Ok(sure) => VerdictAnswer {
+                word: sure.word() as u32,
+                ..VerdictAnswer::default()
+            },
+            Err(refusal) => VerdictAnswer {
+                refused: u32::from(refusal.cause),
+                place: refusal.place,
+                ..VerdictAnswer::default()
+            },
+        }
+    }
+}
+
+impl From<Result<Word, Refusal>> for WordAnswer {
+    ghost from_gives = { λ reply answer. answer ≡ word_struct reply };
+
+    fn from(reply: Result<Word, Refusal>) -> WordAnswer {
+        match reply {
+            Ok(word) => WordAnswer {
+                refused: 0,
+                place: 0,
+                word: word as u32,
+            },
+            Err(refusal) => WordAnswer {
+                refused: u32::from(refusal.cause),
                 place: refusal.place,
                 word: 0,
-            }
+            },
         }
     }
 }

@@ -43,7 +43,7 @@ impl Box {
     }
 }
 
-// A corner's name.
+// A corner's name; its number is its place in this order, from 0.
 #[derive(Clone, Copy, Debug, PartialEq, Eq)]
 pub enum Corner {
     SouthWest,
@@ -52,12 +52,12 @@ pub enum Corner {
     NorthWest,
 }
 
-// A verdict's word.
+// A verdict's word, with its number.
 #[derive(Clone, Copy, Debug, PartialEq, Eq)]
 pub enum Word {
-    Inside,
-    Outside,
-    Undecided,
+    Inside = 1,
+    Outside = 2,
+    Undecided = 3,
 }
 
 impl fmt::Display for Word {
