@@ -5,6 +5,8 @@
 // answer.
 #![tactic(auto)]
 
+ghost use Rattle.std.specs.Prelude.{◌≤◌, length};
+
 use std::fmt::Display;
 use std::io::{self, Read};
 
@@ -28,7 +30,9 @@ pub fn read_number(input: &mut impl Read) -> i32 {
 }
 
 // The part at the front of a list that the next count says: no more than the list has.
-pub fn read_front<'a, T>(input: &mut impl Read, list: &'a mut [T]) -> &'a mut [T] {
+pub fn read_front<'a, T>(input: &mut impl Read, list: &'a mut [T]) -> &'a mut [T]
+    ensures { length result.now ≤ length list.old }
+{
     let count = (read_count(input) as usize).min(list.len());
     &mut list[..count]
 }

@@ -12,6 +12,7 @@ ghost use Rattle.turns.specs.Reflection.{reflected};
 ghost use Rattle.turns.specs.Sums.{sum_of, difference_of, Encoded, Decoded};
 
 use plane::{Point, SPAN};
+use std::cmp::Ordering;
 
 // How much greater a key is than that of the point one metre west: more than any part of a key.
 const STRIDE: u32 = 32768;
@@ -150,14 +151,11 @@ pub fn turn_of(a: u32, b: u32, c: u32) -> Turn
     requires { Key a × Key b × Key c }
     ensures { result ≡ turn_of (signed_area (point_of a) (point_of b) (point_of c)) }
 {
-    let area = signed_area(a, b, c);
-    if area < 0 {
-        return Turn::Right;
+    match signed_area(a, b, c).cmp(&0) {
+        Ordering::Less => Turn::Right,
+        Ordering::Equal => Turn::Straight,
+        Ordering::Greater => Turn::Left,
     }
-    if area == 0 {
-        return Turn::Straight;
-    }
-    Turn::Left
 }
 
 // How far east of a's point b's lies.
