@@ -1,6 +1,7 @@
 -- Boxes whose corners leave what is known of the points so far as it is. Assumes nothing.
 use mathlib.Core.Path.{◌≡◌, refl, sym, ◌∙◌, ap, subst}
 use mathlib.Core.Bool.{Bool, true, false, not}
+use Rattle.std.specs.Prelude.{Option, Some, None}
 use mathlib.Core.List.{List, [], ◌∷◌, ◌++◌, append_assoc, append-nil}
 use Prim.Native.Nat.{ℕ, suc, ◌+◌, ◌<◌, ◌≤◌}
 use native.Mathlib.Omega.{arith}
@@ -28,16 +29,14 @@ use Rattle.cones.specs.declared.Cone.{Cone}
 use Rattle.cones.specs.declared.Cone.TheVariants.{Line, Wedge}
 use Rattle.passes.specs.declared.CornerSet.{CornerSet}
 use Rattle.passes.specs.declared.CornerSet.TheVariants.{Four}
-use Rattle.passes.specs.declared.Met.{Met}
-use Rattle.passes.specs.declared.Met.TheVariants.{Nowhere, At}
 use Rattle.cones.proofs.Widening.{supported_fewer, line_more, wedge_more}
 
 -- ---- one more point
 
 -- another point leaves it open, or met as it was
-pub met_more : (bs : List Box) (qs : List Point) (p q : Point) (met : Met) → (q ≡ p → ⊥) → MetSays bs qs p met → MetSays bs (qs ++ (q ∷ [])) p met
-met_more bs qs p q Nowhere ne m = λ s. all_append (m (supported_fewer p qs (q ∷ []) s)) (ne & none)
-met_more bs qs p q (At w) ne m = m
+pub met_more : (bs : List Box) (qs : List Point) (p q : Point) (met : Option CornerKey) → (q ≡ p → ⊥) → MetSays bs qs p met → MetSays bs (qs ++ (q ∷ [])) p met
+met_more bs qs p q None ne m = λ s. all_append (m (supported_fewer p qs (q ∷ []) s)) (ne & none)
+met_more bs qs p q (Some w) ne m = m
 
 -- ---- the corners of boxes, box by box
 
@@ -70,7 +69,7 @@ passed false e = sym e
 abbrev pub InsideWedge : Point → CornerKey → CornerKey → Point → Type 0
 InsideWedge p a b q = (pos 0 <ℤ signed_area p (corner_point a) q) × (pos 0 <ℤ signed_area p q (corner_point b))
 
-inside_stays : {p : Point} {a b : CornerKey} (all : List Box) (qs : List Point) (met : Met) (q : Point) → InsideWedge p a b q → Says all qs p (Wedge a b) met → Says all (qs ++ (q ∷ [])) p (Wedge a b) met
+inside_stays : {p : Point} {a b : CornerKey} (all : List Box) (qs : List Point) (met : Option CornerKey) (q : Point) → InsideWedge p a b q → Says all qs p (Wedge a b) met → Says all (qs ++ (q ∷ [])) p (Wedge a b) met
 inside_stays {p} {a} {b} all qs met q h s =
     record { of_cone = wedge_more p q a b (<→≤ h.0) (<→≤ h.1) s.of_cone; of_met = met_more all qs p q met apart s.of_met }
   where
@@ -81,7 +80,7 @@ inside_stays {p} {a} {b} all qs met q h s =
 abbrev pub OnLineApart : Point → CornerKey → Point → Type 0
 OnLineApart p a q = (signed_area p (corner_point a) q ≡ pos 0) × (q ≡ p → ⊥)
 
-line_stays : {p : Point} {a b : CornerKey} (all : List Box) (qs : List Point) (met : Met) (q : Point) → OnLineApart p a q → Says all qs p (Line a b) met → Says all (qs ++ (q ∷ [])) p (Line a b) met
+line_stays : {p : Point} {a b : CornerKey} (all : List Box) (qs : List Point) (met : Option CornerKey) (q : Point) → OnLineApart p a q → Says all qs p (Line a b) met → Says all (qs ++ (q ∷ [])) p (Line a b) met
 line_stays {p} {a} {b} all qs met q h s = record { of_cone = line_more p q a b h.0 s.of_cone; of_met = met_more all qs p q met h.1 s.of_met }
 
 -- all four corners of a box, where the one furthest right of the one ray is, and the one furthest left of the other
@@ -100,8 +99,8 @@ passes_none set bs cone k h = record { from = omega arith; upto = h; says = λ a
 
 -- one more box, where a corner of which P holds leaves it as it is
 module _ {p : Point} {cone : Cone} {P : Point → Type 0}
-    (stays : (all : List Box) (qs : List Point) (met : Met) (q : Point) → P q → Says all qs p cone met → Says all (qs ++ (q ∷ [])) p cone met) where
-  more_stay : {all : List Box} {qs : List Point} {met : Met} (more : List Point) → All P more → Says all qs p cone met → Says all (qs ++ more) p cone met
+    (stays : (all : List Box) (qs : List Point) (met : Option CornerKey) (q : Point) → P q → Says all qs p cone met → Says all (qs ++ (q ∷ [])) p cone met) where
+  more_stay : {all : List Box} {qs : List Point} {met : Option CornerKey} (more : List Point) → All P more → Says all qs p cone met → Says all (qs ++ more) p cone met
   more_stay {all} {qs} {met} [] none s = subst (λ l. Says all l p cone met) (sym (append-nil qs)) s
   more_stay {all} {qs} {met} (q ∷ more) (h & hs) s = subst (λ l. Says all l p cone met) (append_assoc qs (q ∷ []) more) (more_stay more hs (stays all qs met q h s))
 

@@ -1,5 +1,5 @@
 -- What is known of the points so far, seen from a plug, and boxes whose corners leave it as it is. Definitions only.
-use Rattle.std.specs.Prelude.{◌≡◌, List, [], ◌∷◌, ◌++◌, map, ℕ, ◌≤◌, pos, length, get_or, take}
+use Rattle.std.specs.Prelude.{◌≡◌, Option, Some, None, List, [], ◌∷◌, ◌++◌, map, ℕ, ◌≤◌, pos, length, get_or, take}
 use Rattle.plane.specs.declared.Point.{Point}
 use Rattle.plane.specs.Members.{All}
 use Rattle.plane.specs.Vectors.{from, Supported}
@@ -11,8 +11,6 @@ use Rattle.cones.specs.Cones.{corner_point, Named, ConeSays}
 use Rattle.cones.specs.declared.CornerKey.{CornerKey}
 use Rattle.cones.specs.declared.Cone.{Cone}
 use Rattle.cones.specs.declared.Cone.TheVariants.{Line}
-use Rattle.passes.specs.declared.Met.{Met}
-use Rattle.passes.specs.declared.Met.TheVariants.{Nowhere, At}
 use Rattle.passes.specs.declared.CornerSet.{CornerSet}
 use Rattle.passes.specs.declared.CornerSet.TheVariants.{One, Four}
 
@@ -26,12 +24,12 @@ pub record IsPlug (bs : List Box) (p : Point) (v : CornerKey) : Type 0 where
   pub is : corner_point v ≡ p
 
 -- a corner is the plug; or no point is, unless the plug is strictly inside their hull
-abbrev pub MetSays : List Box → List Point → Point → Met → Type 0
-MetSays bs qs p Nowhere = Supported (map (from 1 p) qs) → NoneAt p qs
-MetSays bs qs p (At v) = IsPlug bs p v
+abbrev pub MetSays : List Box → List Point → Point → Option CornerKey → Type 0
+MetSays bs qs p None = Supported (map (from 1 p) qs) → NoneAt p qs
+MetSays bs qs p (Some v) = IsPlug bs p v
 
 -- what is known of the points qs and the plug p
-pub record Says (bs : List Box) (qs : List Point) (p : Point) (cone : Cone) (met : Met) : Type 0 where
+pub record Says (bs : List Box) (qs : List Point) (p : Point) (cone : Cone) (met : Option CornerKey) : Type 0 where
   pub of_cone : ConeSays bs qs p cone
   pub of_met : MetSays bs qs p met
 
@@ -57,7 +55,7 @@ corners_by set (b ∷ bs) = corners_in set b ++ corners_by set bs
 pub record Passes (p : Point) (cone : Cone) (set : CornerSet) (bs : List Box) (k r : ℕ) : Type 0 where
   pub from : k ≤ r
   pub upto : r ≤ length bs
-  pub says : (all : List Box) (qs : List Point) (met : Met) → Says all (qs ++ corners_by set (take k bs)) p cone met → Says all (qs ++ corners_by set (take r bs)) p cone met
+  pub says : (all : List Box) (qs : List Point) (met : Option CornerKey) → Says all (qs ++ corners_by set (take k bs)) p cone met → Says all (qs ++ corners_by set (take r bs)) p cone met
 
 -- the same where the cone is the line through a and whatever other
 pub record PassesLine (p : Point) (a : CornerKey) (set : CornerSet) (bs : List Box) (k r : ℕ) : Type 0 where

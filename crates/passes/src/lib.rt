@@ -4,10 +4,12 @@
 
 ghost use Rattle.std.specs.Prelude.{◌/◌, ◌≤◌, length};
 ghost use Rattle.turns.specs.Keys.{Key, point_of};
-ghost use Rattle.rounds.specs.Boxes.{BoxList, boxes_of};
-ghost use Rattle.cones.specs.Cones.{Known};
+ghost use Rattle.rounds.specs.Boxes.{boxes_of};
+ghost use Rattle.cones.specs.Wider.{Keyed};
 ghost use Rattle.passes.specs.Passes.{Passes, PassesLine};
+ghost use Rattle.passes.specs.Keeping.{KeepsBoxes, KeepsLine};
 
+use boxes::Boxes;
 use cones::{Cone, CornerKey};
 use rounds::Corner;
 
@@ -18,29 +20,21 @@ pub enum CornerSet {
     Four,
 }
 
-// Whether a point so far is the plug itself.
-#[derive(Clone, Copy)]
-pub enum Met {
-    Nowhere,
-    At(CornerKey),
-}
-
 // The first place from k on where that one corner is not strictly inside the wedge, or the number of boxes.
 fn pass_corners(
-    boxes: &[i32],
+    boxes: Boxes,
     corner: Corner,
     k: usize,
     a: CornerKey,
     b: CornerKey,
     plug: u32,
 ) -> usize
-    requires { BoxList boxes.now × (k ≤ length boxes.now / 4) × Key a.key × Key b.key × Key plug }
-    ensures { Passes (point_of plug) (Cone.Wedge a b) (CornerSet.One corner)
-        (boxes_of boxes.now) k result }
+    requires { (k ≤ length boxes.numbers.now / 4) × Key a.key × Key b.key × Key plug }
+    ensures keeps { KeepsBoxes plug (Cone.Wedge a b) (CornerSet.One corner) (boxes_of boxes.entry.numbers.now) k result }
+    ensures passes { Passes (point_of plug) (Cone.Wedge a b) (CornerSet.One corner)
+        (boxes_of boxes.entry.numbers.now) k result }
 {
-    let count = boxes.len() / 4;
-    let mut i = k;
-    while i < count {
+    for i in k..boxes.len() {
         let v = corners::corner_key(boxes, i, corner);
         if !turns::turns_right(plug, v, a.key) {
             return i;
@@ -48,22 +42,21 @@ fn pass_corners(
         if !turns::turns_right(plug, b.key, v) {
             return i;
         }
-        i += 1;
     }
-    i
+    boxes.len()
 }
 
 // The first place from k on where a corner is not strictly inside the wedge, or the number of boxes. Of each box, the
 // corner furthest right of the one ray and that furthest left of the other tell.
-fn pass_boxes(boxes: &[i32], k: usize, a: CornerKey, b: CornerKey, plug: u32) -> usize
-    requires { BoxList boxes.now × (k ≤ length boxes.now / 4) × Key a.key × Key b.key × Key plug }
-    ensures { Passes (point_of plug) (Cone.Wedge a b) CornerSet.Four (boxes_of boxes.now) k result }
+fn pass_boxes(boxes: Boxes, k: usize, a: CornerKey, b: CornerKey, plug: u32) -> usize
+    requires { (k ≤ length boxes.numbers.now / 4) × Key a.key × Key b.key × Key plug }
+    ensures keeps { KeepsBoxes plug (Cone.Wedge a b) CornerSet.Four (boxes_of boxes.entry.numbers.now) k result }
+    ensures passes { Passes (point_of plug) (Cone.Wedge a b) CornerSet.Four
+        (boxes_of boxes.entry.numbers.now) k result }
 {
-    let count = boxes.len() / 4;
     let at_a = corners::rightmost_corner(plug, a.key);
     let at_b = corners::rightmost_corner(b.key, plug);
-    let mut i = k;
-    while i < count {
+    for i in k..boxes.len() {
         let v = corners::corner_key(boxes, i, at_a);
         if !turns::turns_left(plug, a.key, v) {
             return i;
@@ -72,23 +65,17 @@ fn pass_boxes(boxes: &[i32], k: usize, a: CornerKey, b: CornerKey, plug: u32) ->
         if !turns::turns_left(b.key, plug, w) {
             return i;
         }
-        i += 1;
     }
-    i
+    boxes.len()
 }
 
-// The first place from k on where that one corner is off the line or the plug itself, or the number of boxes. Where all
-// four are looked at, none is passed.
-fn pass_line(boxes: &[i32], set: CornerSet, k: usize, a: CornerKey, plug: u32) -> usize
-    requires { BoxList boxes.now × (k ≤ length boxes.now / 4) × Key a.key × Key plug }
-    ensures { PassesLine (point_of plug) a set (boxes_of boxes.now) k result }
+// The first place from k on where that one corner is off the line or the plug itself, or the number of boxes.
+fn pass_line(boxes: Boxes, corner: Corner, k: usize, a: CornerKey, plug: u32) -> usize
+    requires { (k ≤ length boxes.numbers.now / 4) × Key a.key × Key plug }
+    ensures keeps { KeepsLine plug a (CornerSet.One corner) (boxes_of boxes.entry.numbers.now) k result }
+    ensures passes { PassesLine (point_of plug) a (CornerSet.One corner) (boxes_of boxes.entry.numbers.now) k result }
 {
-    let CornerSet::One(corner) = set else {
-        return k;
-    };
-    let count = boxes.len() / 4;
-    let mut i = k;
-    while i < count {
+    for i in k..boxes.len() {
         let v = corners::corner_key(boxes, i, corner);
         if turns::signed_area(plug, a.key, v) != 0 {
             return i;
@@ -96,24 +83,21 @@ fn pass_line(boxes: &[i32], set: CornerSet, k: usize, a: CornerKey, plug: u32) -
         if v == plug {
             return i;
         }
-        i += 1;
     }
-    i
+    boxes.len()
 }
 
-// A place from k on, such that those corners of the boxes up to there leave the cone as it is.
-pub fn pass_cone(boxes: &[i32], set: CornerSet, k: usize, cone: Cone, plug: u32) -> usize
-    requires { BoxList boxes.now × (k ≤ length boxes.now / 4) × Key plug × Known (point_of plug) cone }
-    ensures { Passes (point_of plug) cone set (boxes_of boxes.now) k result }
+// A place from k on, such that those corners of the boxes up to there leave the cone as it is. On a line, none is passed
+// where all four are looked at.
+pub fn pass_cone(boxes: Boxes, set: CornerSet, k: usize, cone: Cone, plug: u32) -> usize
+    requires { (k ≤ length boxes.numbers.now / 4) × Key plug × Keyed cone }
+    ensures keeps { KeepsBoxes plug cone set (boxes_of boxes.entry.numbers.now) k result }
+    ensures passes { Passes (point_of plug) cone set (boxes_of boxes.entry.numbers.now) k result }
 {
-    if let Cone::Line(a, _) = cone {
-        return pass_line(boxes, set, k, a, plug);
-    }
-    let Cone::Wedge(a, b) = cone else {
-        return k;
-    };
-    match set {
-        CornerSet::One(corner) => pass_corners(boxes, corner, k, a, b, plug),
-        CornerSet::Four => pass_boxes(boxes, k, a, b, plug),
+    match (cone, set) {
+        (Cone::Line(a, _), CornerSet::One(corner)) => pass_line(boxes, corner, k, a, plug),
+        (Cone::Wedge(a, b), CornerSet::One(corner)) => pass_corners(boxes, corner, k, a, b, plug),
+        (Cone::Wedge(a, b), CornerSet::Four) => pass_boxes(boxes, k, a, b, plug),
+        _ => k,
     }
 }

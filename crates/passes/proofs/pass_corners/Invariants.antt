@@ -1,15 +1,9 @@
 -- `passes::pass_corners` meets its contract. The invariant: the corners from place k to place i leave the wedge as it is. Assumes nothing.
-use Prim.Native.Nat.{◌/◌, ◌-◌}
-use lib.ListN.{length}
-use Rattle.turns.specs.Keys.{point_of}
 use Rattle.rounds.specs.Boxes.{boxes_of}
-use Rattle.passes.specs.Passes.{Passes}
 use Rattle.cones.specs.declared.Cone.TheVariants.{Wedge}
 use Rattle.passes.specs.declared.CornerSet.TheVariants.{One}
+use Rattle.passes.proofs.Keeping.{Stay}
 use Rattle.passes.proofs.pass_corners.Given as goal
 
 abbrev pub invariant-loop-i : goal.invariant-loop-i
-invariant-loop-i l = Passes (point_of l.plug) (Wedge l.a l.b) (One l.corner) (boxes_of l.boxes) l.k l.i
-
-abbrev pub decreases-loop-i : goal.decreases-loop-i
-decreases-loop-i l = length l.boxes / 4 - l.i
+invariant-loop-i l = Stay l.plug (Wedge l.a l.b) (One l.corner) (boxes_of l.boxes.numbers.now) l.k l.i

@@ -1,7 +1,7 @@
 -- `passes::pass_line` meets its contract. The invariant: the corners from place k to place i leave the line as it is. Assumes nothing.
 use mir.Syntax.{w64}
-use mathlib.Core.Path.{sym, ◌∙◌, subst}
-use Prim.Native.Nat.{ℕ, ◌<◌}
+use mathlib.Core.Path.{◌≡◌, sym, ◌∙◌, subst}
+use Prim.Native.Nat.{◌<◌}
 use native.Mathlib.Omega.{arith}
 use lib.IntN.{pos}
 use lib.ListN.{length}
@@ -10,63 +10,40 @@ use Rattle.plane.specs.Members.{none, ◌&◌}
 use Rattle.turns.specs.Keys.{point_of}
 use Rattle.turns.proofs.Order.{point_injective}
 use Rattle.rounds.specs.Boxes.{boxes_of}
-use Rattle.rounds.specs.declared.Corner.{Corner}
 use Rattle.rounds.proofs.Rows.{boxes_length}
-use Rattle.passes.specs.Passes.{PassesLine}
 use Rattle.passes.specs.declared.CornerSet.TheVariants.{One}
-use Rattle.passes.proofs.Passing.{corner_of_nth, OnLineApart, passes_none, passes_line}
+use Rattle.passes.proofs.Passing.{corner_of_nth, OnLineApart}
+use Rattle.passes.proofs.Keeping.{Stay, stay_none, stay_line}
+use Rattle.cones.specs.declared.CornerKey.{CornerKey}
+use Rattle.cones.specs.declared.Cone.TheVariants.{Line}
 use Rattle.passes.proofs.pass_line.Goals as goal
-use Rattle.passes.proofs.pass_line.Goals.{At-loop-i}
-
-abbrev corner : At-loop-i → Corner
-corner l = l.in-One.corner
-
--- what is passed of that corner, of the set
-of-set : (l : At-loop-i) {r : ℕ} → PassesLine (point_of l.args.plug) l.args.a (One (corner l)) (boxes_of l.args.boxes.now) l.args.k r
-    → PassesLine (point_of l.args.plug) l.args.a l.args.set (boxes_of l.args.boxes.now) l.args.k r
-of-set l {r} o =
-    subst (λ set. PassesLine (point_of l.args.plug) l.args.a set (boxes_of l.args.boxes.now) l.args.k r) (sym l.in-One.is) o
-
-pub returns-in_default : goal.returns-in_default
-returns-in_default c =
-    record { passes = λ b. passes_none _ _ _ c.args.k (omega (arith, c.requires.1, boxes_length c.args.boxes.now)) }
 
 pub loop-i-init : goal.loop-i-init
-loop-i-init c =
-    record { passes = λ b. passes_none _ _ _ c.args.k (omega (arith, c.requires.1, boxes_length c.args.boxes.now)) }
-
-pub corner_key-v-requires : goal.corner_key-v-requires
-corner_key-v-requires c = (c.requires.0, omega arith)
-
-pub signed_area-requires : goal.signed_area-requires
-signed_area-requires c = (c.requires.3, c.requires.2, c.corner_key-v.ensures.key)
+loop-i-init c b = stay_none _ _ _ _ c.args.k (omega (arith, boxes_length c.args.boxes.numbers.now))
 
 pub returns-then-signed_area-ne0 : goal.returns-then-signed_area-ne0
-returns-then-signed_area-ne0 c = of-set c.before.before.before.before c.loop-i.invariant
+returns-then-signed_area-ne0 c =
+    record { keeps = record { keeps = λ b. (c.loop-i.invariant b).keeps }; passes = record { passes = λ b. (c.loop-i.invariant b).passes } }
 
 pub returns-then-v-plug : goal.returns-then-v-plug
-returns-then-v-plug c = of-set c.before.before.before.before.before c.loop-i.invariant
-
-pub overflow_add-i : goal.overflow_add-i
-overflow_add-i c = omega arith
-
-pub loop-i-smaller : goal.loop-i-smaller
-loop-i-smaller c = omega arith
+returns-then-v-plug c =
+    record { keeps = record { keeps = λ b. (c.loop-i.invariant b).keeps }; passes = record { passes = λ b. (c.loop-i.invariant b).passes } }
 
 pub loop-i-preserved : goal.loop-i-preserved
-loop-i-preserved c =
+loop-i-preserved c b =
     let i = c.loop-i.i in
-    let bs = boxes_of c.args.boxes.now in
-    let n : i < length bs = omega (arith, boxes_length c.args.boxes.now) in
-    let p = point_of c.args.plug in
-    record {
-      passes = λ b.
-          passes_line (One (corner c.before.before.before.before.before)) bs c.args.a b c.args.k i n
-          (subst (OnLineApart p c.args.a) (c.corner_key-v.ensures.is ∙ corner_of_nth (corner c.before.before.before.before.before) bs i n)
-          (sym c.signed_area.ensures ∙ eqz {w = w64} (ok _ c.signed_area.type_inv) (lit (pos 0) tt) c.if-signed_area-ne0.false, λ e. c.if-v-plug.false (point_injective _ _ e))
-          & none)
-          (c.loop-i.invariant.passes b);
-    }
+    let bs = boxes_of c.args.boxes.numbers.now in
+    let n : i < length bs = omega (arith, boxes_length c.args.boxes.numbers.now) in
+    stay_line c.args.plug (One c.args.corner) bs c.args.a b c.args.k i n c.args.boxes.accepted.in_span
+    (subst (OnLineApart (point_of c.args.plug) c.args.a) (c.corner_key-v.ensures.is ∙ corner_of_nth c.args.corner bs i n) (
+      sym c.signed_area.ensures ∙ eqz {w = w64} (ok _ c.signed_area.type_inv) (lit (pos 0) tt) c.if-signed_area-ne0.false,
+      λ e. c.if-v-plug.false (point_injective _ _ e),
+    )
+    & none)
+    (c.loop-i.invariant b)
 
 pub returns : goal.returns
-returns c = of-set c.before c.loop-i.invariant
+returns c =
+    let e : c.loop-i.i ≡ c.len.result = omega arith in
+    let s = λ (b : CornerKey). subst (Stay c.args.plug (Line c.args.a b) (One c.args.corner) (boxes_of c.args.boxes.numbers.now) c.args.k) e (c.loop-i.invariant b) in
+    record { keeps = record { keeps = λ b. (s b).keeps }; passes = record { passes = λ b. (s b).passes } }

@@ -1,14 +1,10 @@
 -- `passes::pass_line` meets its contract. The invariant: the corners from place k to place i leave the line as it is. Assumes nothing.
-use Prim.Native.Nat.{◌/◌, ◌-◌}
-use lib.ListN.{length}
-use Rattle.turns.specs.Keys.{point_of}
+use Rattle.cones.specs.declared.CornerKey.{CornerKey}
 use Rattle.rounds.specs.Boxes.{boxes_of}
-use Rattle.passes.specs.Passes.{PassesLine}
+use Rattle.cones.specs.declared.Cone.TheVariants.{Line}
 use Rattle.passes.specs.declared.CornerSet.TheVariants.{One}
+use Rattle.passes.proofs.Keeping.{Stay}
 use Rattle.passes.proofs.pass_line.Given as goal
 
 abbrev pub invariant-loop-i : goal.invariant-loop-i
-invariant-loop-i l = PassesLine (point_of l.plug) l.a (One l.corner) (boxes_of l.boxes) l.k l.i
-
-abbrev pub decreases-loop-i : goal.decreases-loop-i
-decreases-loop-i l = length l.boxes / 4 - l.i
+invariant-loop-i l = (b : CornerKey) → Stay l.plug (Line l.a b) (One l.corner) (boxes_of l.boxes.numbers.now) l.k l.i

@@ -24,11 +24,11 @@ pub record KeepsBox (plug : ℕ) (cone : Cone) (set : CornerSet) (n : ℕ) (b : 
   pub corners : All (Keeps plug cone) (keys_in set n b)
 
 -- so do the boxes from place k to place r
-pub record Passes (plug : ℕ) (cone : Cone) (set : CornerSet) (bs : List Box) (k r : ℕ) : Type 0 where
+pub record KeepsBoxes (plug : ℕ) (cone : Cone) (set : CornerSet) (bs : List Box) (k r : ℕ) : Type 0 where
   pub from : k ≤ r
   pub upto : r ≤ length bs
   pub keeps : (i : ℕ) → k ≤ i → i < r → KeepsBox plug cone set (suc i) (nth_box bs i)
 
 -- the same where the cone is the line through a and whatever other
-pub record PassesLine (plug : ℕ) (a : CornerKey) (set : CornerSet) (bs : List Box) (k r : ℕ) : Type 0 where
-  pub passes : (b : CornerKey) → Passes plug (Line a b) set bs k r
+pub record KeepsLine (plug : ℕ) (a : CornerKey) (set : CornerSet) (bs : List Box) (k r : ℕ) : Type 0 where
+  pub keeps : (b : CornerKey) → KeepsBoxes plug (Line a b) set bs k r
