@@ -1,4 +1,5 @@
 -- The view that the code finds, step by step: a corner, the end of a box, boxes that are passed over. Assumes nothing.
+use Rattle.std.specs.Prelude.{Option, Some}
 use mathlib.Core.Path.{◌≡◌, refl, sym, ◌∙◌, ap, ap₂}
 use mathlib.Core.Bool.{false, cond}
 use mathlib.Core.List.{List, [], ◌∷◌}
@@ -15,15 +16,13 @@ use Rattle.cones.specs.declared.CornerKey.{CornerKey}
 use Rattle.cones.specs.declared.Cone.{Cone}
 use Rattle.cones.specs.declared.Cone.TheVariants.{Nothing, Ray, Line, Wedge, Half, Around}
 use Rattle.passes.specs.Passes.{nth_box, names_in}
-use Rattle.cone_passes.specs.Passes.{keys_in, Keeps, KeepsBox, Passes}
+use Rattle.passes.specs.Keeping.{keys_in, Keeps, KeepsBox, KeepsBoxes}
 use Rattle.passes.specs.declared.CornerSet.{CornerSet}
-use Rattle.passes.specs.declared.Met.{Met}
-use Rattle.passes.specs.declared.Met.TheVariants.{At}
 use Rattle.views.specs.Views.{nth_name}
 use Rattle.views.specs.Looking.{view_with, view_with_all, looked_over}
 use Rattle.views.specs.declared.View.{View}
 
-abbrev pub seen : Cone → Met → View
+abbrev pub seen : Cone → Option CornerKey → View
 seen cone met = record { cone = cone; met = met }
 
 -- what is found from the view after the box with the number n on
@@ -52,7 +51,7 @@ module _ (plug : ℕ) (set : CornerSet) where
   -- ---- boxes that are passed over
 
   keeps_corner : (view : View) (v : CornerKey) → Keeps plug view.cone v → view_with plug view v ≡ view
-  keeps_corner view v h = ap₂ seen h.same (ap (λ t. cond t (At v) view.met) h.apart)
+  keeps_corner view v h = ap₂ seen h.same (ap (λ t. cond t (Some v) view.met) h.apart)
 
   keeps_corners : (view : View) (vs : List CornerKey) → All (Keeps plug view.cone) vs → view_with_all plug view vs ≡ view
   keeps_corners view [] none = refl
@@ -64,7 +63,7 @@ module _ (plug : ℕ) (set : CornerSet) where
       ∙ ap (λ t. cond t view (looked_over plug set (suc n) view bs)) h.onward
 
   module _ (bs : List Box) (view : View) where
-    pub passes_on : (k r : ℕ) → Passes plug view.cone set bs k r → looked_over plug set (suc k) view (drop k bs) ≡ looked_over plug set (suc r) view (drop r bs)
+    pub passes_on : (k r : ℕ) → KeepsBoxes plug view.cone set bs k r → looked_over plug set (suc k) view (drop k bs) ≡ looked_over plug set (suc r) view (drop r bs)
     passes_on k r o = go (r - k) k (omega (arith, o.from)) (omega arith)
       where
         go : (m i : ℕ) → i + m ≡ r → k ≤ i → looked_over plug set (suc i) view (drop i bs) ≡ looked_over plug set (suc r) view (drop r bs)

@@ -1,4 +1,5 @@
 -- What the view of more points says: of one more, of those of a box, of those of boxes one by one. Assumes nothing.
+use Rattle.std.specs.Prelude.{Option, Some, None}
 use mathlib.Core.Path.{◌≡◌, refl, sym, ◌∙◌, ap, subst}
 use mathlib.Core.Bool.{Bool, true, false, cond}
 use mathlib.Core.List.{List, [], ◌∷◌, ◌++◌, map, append_assoc, append-nil}
@@ -27,12 +28,10 @@ use Rattle.cones.specs.declared.Cone.TheVariants.{Nothing, Ray, Line, Wedge, Hal
 use Rattle.cones.proofs.Widening.{supported_fewer, around_more}
 use Rattle.cones.proofs.Wider.{with_says, says_keyed}
 use Rattle.passes.specs.Passes.{MetSays, Says, nth_box, names_in, corners_in, corners_by}
-use Rattle.cone_passes.specs.Passes.{keys_in}
+use Rattle.passes.specs.Keeping.{keys_in}
 use Rattle.passes.specs.declared.CornerSet.{CornerSet}
 use Rattle.passes.specs.declared.CornerSet.TheVariants.{One}
-use Rattle.passes.specs.declared.Met.{Met}
-use Rattle.passes.specs.declared.Met.TheVariants.{Nowhere, At}
-use Rattle.cone_passes.proofs.Passing.{corner_of_nth}
+use Rattle.passes.proofs.Passing.{corner_of_nth}
 use Rattle.views.specs.Views.{MetOn, ViewSays, CornerViewSays, LooksAt, LooksOver}
 use Rattle.views.specs.Looking.{met_with, view_with, view_with_all, looked_over, nothing_seen, view_of}
 use Rattle.views.specs.declared.View.{View}
@@ -41,29 +40,29 @@ use Rattle.views.proofs.Naming.{corner_of_lem}
 -- ---- one more point
 
 -- another point leaves it open, or met as it was
-met_more : (bs : List Box) (qs : List Point) (p q : Point) (met : Met) → (q ≡ p → ⊥) → MetSays bs qs p met → MetSays bs (qs ++ (q ∷ [])) p met
-met_more bs qs p q Nowhere ne m = λ s. all_append (m (supported_fewer p qs (q ∷ []) s)) (ne & none)
-met_more bs qs p q (At w) ne m = m
+met_more : (bs : List Box) (qs : List Point) (p q : Point) (met : Option CornerKey) → (q ≡ p → ⊥) → MetSays bs qs p met → MetSays bs (qs ++ (q ∷ [])) p met
+met_more bs qs p q None ne m = λ s. all_append (m (supported_fewer p qs (q ∷ []) s)) (ne & none)
+met_more bs qs p q (Some w) ne m = m
 
 -- the point is the plug
-met_here : {p : Point} (met : Met) (v : CornerKey) → corner_point v ≡ p → MetOn p met v (At v)
+met_here : {p : Point} (met : Option CornerKey) (v : CornerKey) → corner_point v ≡ p → MetOn p met v (Some v)
 met_here met v e = record { says = λ bs qs n m. record { named = n; is = e } }
 
-met_same : {p : Point} (met : Met) (v : CornerKey) → (corner_point v ≡ p → ⊥) → MetOn p met v met
+met_same : {p : Point} (met : Option CornerKey) (v : CornerKey) → (corner_point v ≡ p → ⊥) → MetOn p met v met
 met_same {p} met v ne = record { says = λ bs qs n m. met_more bs qs p (corner_point v) met ne m }
 
 -- by the test
-pub met_says : (plug : ℕ) (met : Met) (v : CornerKey) → MetOn (point_of plug) met v (met_with plug met v)
+pub met_says : (plug : ℕ) (met : Option CornerKey) (v : CornerKey) → MetOn (point_of plug) met v (met_with plug met v)
 met_says plug met v = go (eqb v.key plug) refl
   where
-    go : (t : Bool) → eqb v.key plug ≡ t → MetOn (point_of plug) met v (cond t (At v) met)
+    go : (t : Bool) → eqb v.key plug ≡ t → MetOn (point_of plug) met v (cond t (Some v) met)
     go true e = met_here met v (ap point_of (eqb-true v.key plug e))
     go false e = met_same met v (λ z. eqb-false v.key plug e (point_injective v.key plug z))
 
 -- where the plug is strictly inside, nothing more is asked
-met_around : (bs : List Box) (qs more : List Point) (p : Point) (met : Met) → (Supported (map (from 1 p) (qs ++ more)) → ⊥) → MetSays bs qs p met → MetSays bs (qs ++ more) p met
-met_around bs qs more p Nowhere n m = λ s. absurd (n s)
-met_around bs qs more p (At w) n m = m
+met_around : (bs : List Box) (qs more : List Point) (p : Point) (met : Option CornerKey) → (Supported (map (from 1 p) (qs ++ more)) → ⊥) → MetSays bs qs p met → MetSays bs (qs ++ more) p met
+met_around bs qs more p None n m = λ s. absurd (n s)
+met_around bs qs more p (Some w) n m = m
 
 -- ---- points behind points
 
@@ -72,7 +71,7 @@ module _ {bs : List Box} {p : Point} where
   looks_none {start} = record { says = λ qs s. subst (λ l. ViewSays bs l p start) (sym (append-nil qs)) s }
 
   -- a corner
-  looks_corner : (start : View) (v : CornerKey) {q : Point} {wider : Cone} {r : Met} → corner_point v ≡ q → Named bs v → Widened p start.cone v wider → MetOn p start.met v r
+  looks_corner : (start : View) (v : CornerKey) {q : Point} {wider : Cone} {r : Option CornerKey} → corner_point v ≡ q → Named bs v → Widened p start.cone v wider → MetOn p start.met v r
       → LooksAt bs p start (q ∷ []) (record { cone = wider; met = r })
   looks_corner start v {q} {wider} {r} e n w m =
       record {

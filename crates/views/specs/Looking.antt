@@ -1,21 +1,19 @@
 -- The view of more corners, as the code finds it, box by box. It fixes which corners a view keeps, so that answers can be proved equal; what the view then says of the
 -- points is in Views. Definitions only.
-use Rattle.std.specs.Prelude.{cond, List, [], ◌∷◌, ℕ, suc, eqb}
+use Rattle.std.specs.Prelude.{Option, Some, None, cond, List, [], ◌∷◌, ℕ, suc, eqb}
 use Rattle.rounds.specs.declared.Box.{Box}
 use Rattle.rounds.specs.declared.Corner.{Corner}
 use Rattle.cones.specs.Wider.{is_around, cone_with}
 use Rattle.cones.specs.declared.CornerKey.{CornerKey}
 use Rattle.cones.specs.declared.Cone.TheVariants.{Nothing}
-use Rattle.cone_passes.specs.Passes.{keys_in}
-use Rattle.passes.specs.declared.Met.{Met}
-use Rattle.passes.specs.declared.Met.TheVariants.{Nowhere, At}
+use Rattle.passes.specs.Keeping.{keys_in}
 use Rattle.passes.specs.declared.CornerSet.{CornerSet}
 use Rattle.passes.specs.declared.CornerSet.TheVariants.{One}
 use Rattle.views.specs.declared.View.{View}
 
 -- where the plug is met among the points so far and one more corner: the last that is the plug
-abbrev pub met_with : ℕ → Met → CornerKey → Met
-met_with plug met v = cond (eqb v.key plug) (At v) met
+abbrev pub met_with : ℕ → Option CornerKey → CornerKey → Option CornerKey
+met_with plug met v = cond (eqb v.key plug) (Some v) met
 
 -- the view of the points so far and of one more corner
 abbrev pub view_with : ℕ → View → CornerKey → View
@@ -35,7 +33,7 @@ looked_over plug set n view (b ∷ bs) =
 
 -- no point is seen
 abbrev pub nothing_seen : View
-nothing_seen = record { cone = Nothing; met = Nowhere }
+nothing_seen = record { cone = Nothing; met = None }
 
 -- the view of that one corner of every box
 abbrev pub view_of : ℕ → Corner → List Box → View

@@ -1,5 +1,5 @@
 -- The points so far as seen from a plug: what their cone and a corner that is the plug say. Definitions only.
-use Rattle.std.specs.Prelude.{List, [], ◌∷◌, ◌++◌, ℕ, get_or}
+use Rattle.std.specs.Prelude.{Option, List, [], ◌∷◌, ◌++◌, ℕ, get_or}
 use Rattle.plane.specs.declared.Point.{Point}
 use Rattle.rounds.specs.Boxes.{corners_of}
 use Rattle.rounds.specs.declared.Box.{Box}
@@ -8,12 +8,11 @@ use Rattle.rounds.specs.declared.Corner.TheVariants.{SouthWest}
 use Rattle.cones.specs.Cones.{corner_point, Named}
 use Rattle.cones.specs.declared.CornerKey.{CornerKey}
 use Rattle.passes.specs.Passes.{MetSays, Says, names_in, corners_by}
-use Rattle.passes.specs.declared.Met.{Met}
 use Rattle.passes.specs.declared.CornerSet.{CornerSet}
 use Rattle.views.specs.declared.View.{View}
 
 -- whether the plug is met among the points and v, whatever points they are
-pub record MetOn (p : Point) (met : Met) (v : CornerKey) (r : Met) : Type 0 where
+pub record MetOn (p : Point) (met : Option CornerKey) (v : CornerKey) (r : Option CornerKey) : Type 0 where
   pub says : (bs : List Box) (qs : List Point) → Named bs v → MetSays bs qs p met → MetSays bs (qs ++ (corner_point v ∷ [])) p r
 
 -- what a view says of the points qs and the plug p

@@ -4,29 +4,30 @@
 
 ghost use Rattle.std.specs.Prelude.{◌≡◌, suc, ◌/◌, ◌<◌, length};
 ghost use Rattle.turns.specs.Keys.{Key, point_of};
-ghost use Rattle.rounds.specs.Boxes.{BoxList, boxes_of};
+ghost use Rattle.rounds.specs.Boxes.{boxes_of};
 ghost use Rattle.cones.specs.Cones.{CornerOf};
 ghost use Rattle.cones.specs.Wider.{numbered, Keyed};
 ghost use Rattle.passes.specs.Passes.{nth_box, names_in};
 ghost use Rattle.views.specs.Views.{MetOn, CornerViewSays, nth_name, LooksOver};
 ghost use Rattle.views.specs.Looking.{met_with, looked_over, view_of};
 
+use boxes::Boxes;
 use cones::{Cone, CornerKey};
-use passes::{CornerSet, Met};
+use passes::CornerSet;
 use rounds::Corner;
 
 // The points so far, as seen from the plug.
 #[derive(Clone, Copy)]
 pub struct View {
     pub cone: Cone,
-    pub met: Met,
+    pub met: Option<CornerKey>,
 }
 
 // That one corner of the box at place k, from 0.
-fn nth_corner(boxes: &[i32], k: usize, corner: Corner) -> CornerKey
-    requires { BoxList boxes.now × (k < length boxes.now / 4) }
-    ensures exact { result ≡ numbered (suc k) (nth_box (boxes_of boxes.now) k) corner }
-    ensures is_corner { CornerOf (boxes_of boxes.now) corner k result }
+fn nth_corner(boxes: Boxes, k: usize, corner: Corner) -> CornerKey
+    requires { k < length boxes.numbers.now / 4 }
+    ensures exact { result ≡ numbered (suc k) (nth_box (boxes_of boxes.entry.numbers.now) k) corner }
+    ensures is_corner { CornerOf (boxes_of boxes.entry.numbers.now) corner k result }
 {
     let key = corners::corner_key(boxes, k, corner);
     let number = (k + 1) as u32;
@@ -38,12 +39,12 @@ fn nth_corner(boxes: &[i32], k: usize, corner: Corner) -> CornerKey
 }
 
 // Where the plug is met among the points so far and one more.
-fn meet(met: Met, v: CornerKey, plug: u32) -> Met
+fn meet(met: Option<CornerKey>, v: CornerKey, plug: u32) -> Option<CornerKey>
     ensures exact { result ≡ met_with plug met v }
     ensures met_on { MetOn (point_of plug) met v result }
 {
     if v.key == plug {
-        return Met::At(v);
+        return Some(v);
     }
     met
 }
@@ -87,16 +88,16 @@ fn nth_name(set: CornerSet, j: usize) -> Corner
 }
 
 // The start's points and those corners of every box, as seen from the plug; no further than it is strictly inside.
-pub fn look_over(boxes: &[i32], set: CornerSet, plug: u32, start: View) -> View
-    requires { BoxList boxes.now × Key plug × Keyed start.cone }
-    ensures exact { result ≡ looked_over plug set 1 start (boxes_of boxes.now) }
-    ensures looks_over { LooksOver (boxes_of boxes.now) (point_of plug) start set result }
+pub fn look_over(boxes: Boxes, set: CornerSet, plug: u32, start: View) -> View
+    requires { Key plug × Keyed start.cone }
+    ensures exact { result ≡ looked_over plug set 1 start (boxes_of boxes.entry.numbers.now) }
+    ensures looks_over { LooksOver (boxes_of boxes.entry.numbers.now) (point_of plug) start set result }
 {
-    let count = boxes.len() / 4;
+    let count = boxes.len();
     let each = corner_count(set);
     let mut cone = start.cone;
     let mut met = start.met;
-    let mut k = cone_passes::pass_cone(boxes, set, 0, cone, plug);
+    let mut k = passes::pass_cone(boxes, set, 0, cone, plug);
     let mut j: usize = 0;
     while k < count {
         let corner = nth_name(set, j);
@@ -109,21 +110,21 @@ pub fn look_over(boxes: &[i32], set: CornerSet, plug: u32, start: View) -> View
                 return View { cone, met };
             }
             j = 0;
-            k = cone_passes::pass_cone(boxes, set, k + 1, cone, plug);
+            k = passes::pass_cone(boxes, set, k + 1, cone, plug);
         }
     }
     View { cone, met }
 }
 
 // That one corner of every box, as seen from the plug.
-pub fn view_of(boxes: &[i32], corner: Corner, plug: u32) -> View
-    requires { BoxList boxes.now × Key plug }
-    ensures exact { result ≡ view_of plug corner (boxes_of boxes.now) }
-    ensures says { CornerViewSays (boxes_of boxes.now) corner (point_of plug) result }
+pub fn view_of(boxes: Boxes, corner: Corner, plug: u32) -> View
+    requires { Key plug }
+    ensures exact { result ≡ view_of plug corner (boxes_of boxes.entry.numbers.now) }
+    ensures says { CornerViewSays (boxes_of boxes.entry.numbers.now) corner (point_of plug) result }
 {
     let nothing = View {
         cone: Cone::Nothing,
-        met: Met::Nowhere,
+        met: None,
     };
     look_over(boxes, CornerSet::One(corner), plug, nothing)
 }

@@ -1,5 +1,6 @@
 -- `views::look_over` meets its contract. The invariant: what is found of all boxes from the start is what is found from the present view on, from corner j of the box at
 -- place k. Assumes nothing.
+use Rattle.std.specs.Prelude.{Option}
 use mathlib.Core.Path.{◌≡◌, sym, ◌∙◌, ap, ap₂, subst}
 use mathlib.Core.Bool.{cond}
 use mathlib.Core.List.{List}
@@ -18,9 +19,8 @@ use Rattle.cones.specs.declared.CornerKey.{CornerKey}
 use Rattle.cones.proofs.Wider.{keyed_with}
 use Rattle.passes.specs.Passes.{nth_box, names_in}
 use Rattle.passes.specs.declared.CornerSet.{CornerSet}
-use Rattle.passes.specs.declared.Met.{Met}
 use Rattle.passes.specs.declared.CornerSet.TheVariants.{One, Four}
-use Rattle.cone_passes.proofs.Passing.{numbered_key}
+use Rattle.passes.proofs.Keeping.{numbered_key}
 use Rattle.views.specs.Views.{nth_name, LooksOver}
 use Rattle.views.specs.Looking.{met_with, view_with, looked_over}
 use Rattle.views.specs.declared.View.{View}
@@ -36,7 +36,7 @@ has_key : (set : CornerSet) (bs : List Box) (k j : ℕ) {v : CornerKey} → All 
 has_key set bs k j all n e = subst (λ (x : CornerKey). Key x.key) (sym e) (numbered_key (suc k) (nth_box bs k) (index_of_all _ all k n) (nth_name set j))
 
 -- a step: the corner at j of the box at k, added to what is seen
-module _ (plug : ℕ) (set : CornerSet) (bs : List Box) (start : View) (cone : Cone) (met : Met) (k j : ℕ) where
+module _ (plug : ℕ) (set : CornerSet) (bs : List Box) (start : View) (cone : Cone) (met : Option CornerKey) (k j : ℕ) where
   abbrev found : View
   found = looked_over plug set 1 start bs
 
@@ -50,15 +50,15 @@ module _ (plug : ℕ) (set : CornerSet) (bs : List Box) (start : View) (cone : C
     same : found ≡ rest plug set (suc k) j (seen cone met) (drop k bs)
 
   -- the view after that corner
-  record Added (wider : Cone) (hit : Met) (v : CornerKey) : Type 0 where
+  record Added (wider : Cone) (hit : Option CornerKey) (v : CornerKey) : Type 0 where
     is_corner : v ≡ corner
     is_wider : wider ≡ cone_with plug cone v
     is_met : hit ≡ met_with plug met v
 
-  is-next : {wider : Cone} {hit : Met} {v : CornerKey} → Added wider hit v → seen wider hit ≡ view_with plug (seen cone met) corner
+  is-next : {wider : Cone} {hit : Option CornerKey} {v : CornerKey} → Added wider hit v → seen wider hit ≡ view_with plug (seen cone met) corner
   is-next a = ap₂ seen (a.is_wider ∙ ap (cone_with plug cone) a.is_corner) (a.is_met ∙ ap (met_with plug met) a.is_corner)
 
-  next : {wider : Cone} {hit : Met} {v : CornerKey} → Before → Added wider hit v → found ≡ rest plug set (suc k) (j + 1) (seen wider hit) (drop k bs)
+  next : {wider : Cone} {hit : Option CornerKey} {v : CornerKey} → Before → Added wider hit v → found ≡ rest plug set (suc k) (j + 1) (seen wider hit) (drop k bs)
   next b a =
       b.same
       ∙ takes_corner plug set bs (seen cone met) k j b.in_list b.place
@@ -68,21 +68,21 @@ module _ (plug : ℕ) (set : CornerSet) (bs : List Box) (start : View) (cone : C
   abbrev further : View → View
   further w = looked_over plug set (suc (k + 1)) w (drop (k + 1) bs)
 
-  whole : {wider : Cone} {hit : Met} {v : CornerKey} → Before → Added wider hit v → length (names_in set) ≤ j + 1
+  whole : {wider : Cone} {hit : Option CornerKey} {v : CornerKey} → Before → Added wider hit v → length (names_in set) ≤ j + 1
       → found ≡ cond (is_around wider) (seen wider hit) (further (seen wider hit))
   whole {wider = wider} {hit = hit} b a m = next b a ∙ ends_box plug set bs (seen wider hit) k (j + 1) b.in_list m
 
 pub pass_cone-k-requires : goal.pass_cone-k-requires
-pass_cone-k-requires c = (c.requires.0, omega arith, c.requires.1, c.requires.2)
+pass_cone-k-requires c = (omega arith, c.requires.0, c.requires.1)
 
 pub loop-k-init : goal.loop-k-init
 loop-k-init c =
-    let bs = boxes_of c.args.boxes.now in
-    let e = c.pass_cone-k.ensures in
+    let bs = boxes_of c.args.boxes.numbers.now in
+    let e = c.pass_cone-k.ensures.keeps in
     record {
-      in_range = omega (arith, e.upto, boxes_length c.args.boxes.now);
+      in_range = omega (arith, e.upto, boxes_length c.args.boxes.numbers.now);
       place = (few-names c.args.set).0;
-      keyed = c.requires.2;
+      keyed = c.requires.1;
       same =
           passes_on c.args.plug c.args.set bs c.args.start 0 c.pass_cone-k.result e
           ∙ sym (rest_all c.args.plug c.args.set (suc c.pass_cone-k.result) c.args.start (drop c.pass_cone-k.result bs));
@@ -92,70 +92,69 @@ pub nth_name-corner-requires : goal.nth_name-corner-requires
 nth_name-corner-requires c = c.loop-k.invariant.place
 
 pub nth_corner-v-requires : goal.nth_corner-v-requires
-nth_corner-v-requires c = (c.requires.0, omega arith)
+nth_corner-v-requires c = omega arith
 
 pub widen-cone-requires : goal.widen-cone-requires
 widen-cone-requires c =
-    let bs = boxes_of c.args.boxes.now in
+    let bs = boxes_of c.args.boxes.numbers.now in
     let x = c.nth_corner-v.ensures.exact ∙ ap (numbered (suc c.loop-k.k) (nth_box bs c.loop-k.k)) c.nth_name-corner.ensures in
-    (has_key c.args.set bs c.loop-k.k c.loop-k.j c.requires.0.in_span (omega (arith, boxes_length c.args.boxes.now)) x, c.requires.1, c.loop-k.invariant.keyed)
+    (has_key c.args.set bs c.loop-k.k c.loop-k.j c.args.boxes.accepted.in_span (omega (arith, boxes_length c.args.boxes.numbers.now)) x, c.requires.0, c.loop-k.invariant.keyed)
 
 pub overflow_add-j : goal.overflow_add-j
 overflow_add-j c = omega (arith, c.loop-k.invariant.place, (few-names c.args.set).1)
 
 pub returns-in-Around : goal.returns-in-Around
 returns-in-Around c =
-    let bs = boxes_of c.args.boxes.now in
+    let bs = boxes_of c.args.boxes.numbers.now in
     let x = c.nth_corner-v.ensures.exact ∙ ap (numbered (suc c.loop-k.k) (nth_box bs c.loop-k.k)) c.nth_name-corner.ensures in
     let w = seen c.widen-cone.result c.meet-met.result in
     let e = sym (whole c.args.plug c.args.set bs c.args.start c.loop-k.cone c.loop-k.met c.loop-k.k c.loop-k.j
     (record {
-      in_list = (omega (arith, boxes_length c.args.boxes.now));
+      in_list = (omega (arith, boxes_length c.args.boxes.numbers.now));
       place = c.loop-k.invariant.place;
       same = c.loop-k.invariant.same;
     })
     (record { is_corner = x; is_wider = c.widen-cone.ensures.exact; is_met = c.meet-met.ensures.exact })
     (let e = c.corner_count-each.ensures in omega (arith, c.if-j-each.true))
     ∙ ap (λ b. cond b w (further c.args.plug c.args.set bs c.args.start c.loop-k.cone c.loop-k.met c.loop-k.k c.loop-k.j w)) (ap is_around c.in-Around.is)) in
-    record { exact = e; looks_over = subst (LooksOver bs (point_of c.args.plug) c.args.start c.args.set) (sym e) (looks_over c.args.plug bs c.requires.0.in_span c.args.set c.args.start) }
+    record { exact = e; looks_over = subst (LooksOver bs (point_of c.args.plug) c.args.start c.args.set) (sym e) (looks_over c.args.plug bs c.args.boxes.accepted.in_span c.args.set c.args.start) }
 
 pub overflow_add-k : goal.overflow_add-k
 overflow_add-k c = omega arith
 
 pub pass_cone-k-requires-then-j-each : goal.pass_cone-k-requires-then-j-each
 pass_cone-k-requires-then-j-each c =
-    let bs = boxes_of c.args.boxes.now in
+    let bs = boxes_of c.args.boxes.numbers.now in
     let x = c.nth_corner-v.ensures.exact ∙ ap (numbered (suc c.loop-k.k) (nth_box bs c.loop-k.k)) c.nth_name-corner.ensures in (
+      omega (arith, boxes_length c.args.boxes.numbers.now),
       c.requires.0,
-      omega (arith, boxes_length c.args.boxes.now),
-      c.requires.1,
       subst Keyed (sym c.widen-cone.ensures.exact)
           (keyed_with c.args.plug c.nth_corner-v.result
-          (has_key c.args.set bs c.loop-k.k c.loop-k.j c.requires.0.in_span (omega (arith, boxes_length c.args.boxes.now)) x) c.loop-k.cone c.loop-k.invariant.keyed),
+          (has_key c.args.set bs c.loop-k.k c.loop-k.j c.args.boxes.accepted.in_span (omega (arith, boxes_length c.args.boxes.numbers.now)) x) c.loop-k.cone c.loop-k.invariant.keyed),
     )
 
 pub loop-k-smaller-then-j-each : goal.loop-k-smaller-then-j-each
 loop-k-smaller-then-j-each c =
-    let e = c.pass_cone-k-then-j-each.ensures in
-    omega (arith, boxes_length c.args.boxes.now, e.from, e.upto, c.loop-k.invariant.place, (few-names c.args.set).1)
+    let e = c.pass_cone-k-then-j-each.ensures.keeps in
+    omega (arith, boxes_length c.args.boxes.numbers.now, e.from, e.upto, c.loop-k.invariant.place, (few-names c.args.set).1)
 
 pub loop-k-preserved-then-j-each : goal.loop-k-preserved-then-j-each
 loop-k-preserved-then-j-each c =
-    let bs = boxes_of c.args.boxes.now in
+    let bs = boxes_of c.args.boxes.numbers.now in
     let x = c.nth_corner-v.ensures.exact ∙ ap (numbered (suc c.loop-k.k) (nth_box bs c.loop-k.k)) c.nth_name-corner.ensures in
-    let e = c.pass_cone-k-then-j-each.ensures in
+    let e = c.pass_cone-k-then-j-each.ensures.keeps in
     let r = c.pass_cone-k-then-j-each.result in
     let w = seen c.widen-cone.result c.meet-met.result in
     record {
-      in_range = omega (arith, e.upto, boxes_length c.args.boxes.now);
+      in_range = omega (arith, e.upto, boxes_length c.args.boxes.numbers.now);
       place = (few-names c.args.set).0;
       keyed = subst Keyed (sym c.widen-cone.ensures.exact)
           (keyed_with c.args.plug c.nth_corner-v.result
-          (has_key c.args.set bs c.loop-k.k c.loop-k.j c.requires.0.in_span (omega (arith, boxes_length c.args.boxes.now)) x) c.loop-k.cone c.loop-k.invariant.keyed);
+          (has_key c.args.set bs c.loop-k.k c.loop-k.j c.args.boxes.accepted.in_span (omega (arith, boxes_length c.args.boxes.numbers.now)) x) c.loop-k.cone c.loop-k.invariant.keyed);
       same =
           whole c.args.plug c.args.set bs c.args.start c.loop-k.cone c.loop-k.met c.loop-k.k c.loop-k.j
           (record {
-            in_list = (omega (arith, boxes_length c.args.boxes.now));
+            in_list = (omega (arith, boxes_length c.args.boxes.numbers.now));
             place = c.loop-k.invariant.place;
             same = c.loop-k.invariant.same;
           })
@@ -168,11 +167,11 @@ loop-k-preserved-then-j-each c =
 
 pub loop-k-smaller : goal.loop-k-smaller
 loop-k-smaller c =
-    omega (arith, boxes_length c.args.boxes.now, c.loop-k.invariant.place, (few-names c.args.set).1)
+    omega (arith, boxes_length c.args.boxes.numbers.now, c.loop-k.invariant.place, (few-names c.args.set).1)
 
 pub loop-k-preserved : goal.loop-k-preserved
 loop-k-preserved c =
-    let bs = boxes_of c.args.boxes.now in
+    let bs = boxes_of c.args.boxes.numbers.now in
     let x = c.nth_corner-v.ensures.exact ∙ ap (numbered (suc c.loop-k.k) (nth_box bs c.loop-k.k)) c.nth_name-corner.ensures in
     let i = c.loop-k.invariant in
     let e = c.corner_count-each.ensures in
@@ -181,10 +180,10 @@ loop-k-preserved c =
       place = omega (arith, i.place, c.if-j-each.false);
       keyed = subst Keyed (sym c.widen-cone.ensures.exact)
           (keyed_with c.args.plug c.nth_corner-v.result
-          (has_key c.args.set bs c.loop-k.k c.loop-k.j c.requires.0.in_span (omega (arith, boxes_length c.args.boxes.now)) x) c.loop-k.cone c.loop-k.invariant.keyed);
+          (has_key c.args.set bs c.loop-k.k c.loop-k.j c.args.boxes.accepted.in_span (omega (arith, boxes_length c.args.boxes.numbers.now)) x) c.loop-k.cone c.loop-k.invariant.keyed);
       same = next c.args.plug c.args.set bs c.args.start c.loop-k.cone c.loop-k.met c.loop-k.k c.loop-k.j
           (record {
-            in_list = (omega (arith, boxes_length c.args.boxes.now));
+            in_list = (omega (arith, boxes_length c.args.boxes.numbers.now));
             place = c.loop-k.invariant.place;
             same = c.loop-k.invariant.same;
           })
@@ -193,6 +192,6 @@ loop-k-preserved c =
 
 pub returns : goal.returns
 returns c =
-    let bs = boxes_of c.args.boxes.now in
-    let e = sym (c.loop-k.invariant.same ∙ ends_all c.args.plug c.args.set bs (seen c.loop-k.cone c.loop-k.met) c.loop-k.k c.loop-k.j (omega (arith, boxes_length c.args.boxes.now))) in
-    record { exact = e; looks_over = subst (LooksOver (boxes_of c.args.boxes.now) (point_of c.args.plug) c.args.start c.args.set) (sym e) (looks_over c.args.plug (boxes_of c.args.boxes.now) c.requires.0.in_span c.args.set c.args.start) }
+    let bs = boxes_of c.args.boxes.numbers.now in
+    let e = sym (c.loop-k.invariant.same ∙ ends_all c.args.plug c.args.set bs (seen c.loop-k.cone c.loop-k.met) c.loop-k.k c.loop-k.j (omega (arith, boxes_length c.args.boxes.numbers.now))) in
+    record { exact = e; looks_over = subst (LooksOver (boxes_of c.args.boxes.numbers.now) (point_of c.args.plug) c.args.start c.args.set) (sym e) (looks_over c.args.plug (boxes_of c.args.boxes.numbers.now) c.args.boxes.accepted.in_span c.args.set c.args.start) }

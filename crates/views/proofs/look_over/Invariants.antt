@@ -22,8 +22,8 @@ pub record Reached (boxes : List ℤ) (set : CornerSet) (plug : ℕ) (start view
   pub same : looked_over plug set 1 start (boxes_of boxes) ≡ rest plug set (suc k) j view (drop k (boxes_of boxes))
 
 abbrev pub invariant-loop-k : goal.invariant-loop-k
-invariant-loop-k l = Reached l.boxes l.set l.plug (seen l.initial.cone l.initial.met) (seen l.cone l.met) l.k l.j
+invariant-loop-k l = Reached l.boxes.numbers.now l.set l.plug (seen l.initial.cone l.initial.met) (seen l.cone l.met) l.k l.j
 
 -- a box has at most four corners
 abbrev pub decreases-loop-k : goal.decreases-loop-k
-decreases-loop-k l = (length l.boxes / 4 - l.k) * 5 - l.j
+decreases-loop-k l = (length l.boxes.numbers.now / 4 - l.k) * 5 - l.j

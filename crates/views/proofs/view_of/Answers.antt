@@ -8,10 +8,10 @@ use Rattle.views.proofs.Viewing.{view_says}
 use Rattle.views.proofs.view_of.Goals as goal
 
 pub look_over-requires : goal.look_over-requires
-look_over-requires c = (c.requires.0, c.requires.1, none)
+look_over-requires c = (c.requires, none)
 
 pub returns : goal.returns
 returns c =
-    let bs = boxes_of c.args.boxes.now in
+    let bs = boxes_of c.args.boxes.numbers.now in
     let e = c.look_over.ensures.exact in
-    record { exact = e; says = subst (CornerViewSays bs c.args.corner (point_of c.args.plug)) (sym e) (view_says c.args.plug bs c.requires.0.in_span c.args.corner) }
+    record { exact = e; says = subst (CornerViewSays bs c.args.corner (point_of c.args.plug)) (sym e) (view_says c.args.plug bs c.args.boxes.accepted.in_span c.args.corner) }
