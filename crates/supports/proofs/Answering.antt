@@ -1,4 +1,6 @@
 -- What a cone tells the first driver, and the four corners one after another. Assumes nothing.
+use Rattle.std.specs.Option.{option_or}
+use Rattle.std.specs.Prelude.{Option, Some, None}
 use Prim.Native.Nat.{ℕ}
 use mathlib.Core.Path.{◌≡◌, refl, sym, subst}
 use mathlib.Core.List.{List, map}
@@ -15,6 +17,7 @@ use Rattle.rounds.specs.declared.Box.{Box}
 use Rattle.rounds.specs.declared.Corner.{Corner}
 use Rattle.rounds.specs.declared.Corner.TheVariants.{SouthWest, SouthEast, NorthEast, NorthWest}
 use Rattle.rounds.proofs.Corners.{by_corner}
+use Rattle.rounds.specs.declared.Direction.{Direction}
 use Rattle.cones.specs.Cones.{corner_point, ConeSays}
 use Rattle.cones.specs.declared.Cone.{Cone}
 use Rattle.views.specs.Views.{CornerViewSays}
@@ -22,11 +25,9 @@ use Rattle.views.specs.Looking.{view_of}
 use Rattle.views.specs.declared.View.{View}
 use Rattle.views.proofs.Viewing.{view_says}
 use Rattle.supports.specs.Supports.{square_to, SupportAt, SupportSays, SupportBy}
-use Rattle.supports.specs.Supporting.{support_of_cone, support_of_corner, ◌orSupport◌, support_of}
+use Rattle.supports.specs.Supporting.{support_of_cone, support_of_corner, support_of}
 use Rattle.cones.specs.declared.CornerKey.{CornerKey}
 use Rattle.cones.specs.declared.Cone.TheVariants.{Nothing, Ray, Line, Wedge, Half, Around}
-use Rattle.supports.specs.declared.Support.{Support}
-use Rattle.supports.specs.declared.Support.TheVariants as Support'
 use Rattle.cones.proofs.FirstRay.{FirstRay, ray_first, line_first, wedge_first, half_first, square_nonzero, square_behind, square_supported, east_nonzero, east_behind, east_supported}
 
 -- ---- the first driver
@@ -43,7 +44,7 @@ module _ (k : ℕ) (hk : Key k) (corner : Corner) where
         reason = record { nonzero = square_nonzero p (corner_point a) r; behind = square_behind p (corner_point a) r };
       }
 
-  nothing_supports : SupportBy p Nothing corner (Support'.Reason (record { corner = corner; east = pos 1; north = pos 0 }))
+  nothing_supports : SupportBy p Nothing corner (Some (record { corner = corner; east = pos 1; north = pos 0 }))
   nothing_supports =
       record {
         says = λ bs h. record {
@@ -53,19 +54,19 @@ module _ (k : ℕ) (hk : Key k) (corner : Corner) where
         };
       }
 
-  ray_supports : (a : CornerKey) → SupportBy p (Ray a) corner (Support'.Reason (square_to (corner_point a) corner p))
+  ray_supports : (a : CornerKey) → SupportBy p (Ray a) corner (Some (square_to (corner_point a) corner p))
   ray_supports a = record { says = λ bs r. square_holds bs a r.seen_a.key (ray_first p r) }
 
-  line_supports : (a b : CornerKey) → SupportBy p (Line a b) corner (Support'.Reason (square_to (corner_point a) corner p))
+  line_supports : (a b : CornerKey) → SupportBy p (Line a b) corner (Some (square_to (corner_point a) corner p))
   line_supports a b = record { says = λ bs r. square_holds bs a r.seen_a.key (line_first p r) }
 
-  wedge_supports : (a b : CornerKey) → SupportBy p (Wedge a b) corner (Support'.Reason (square_to (corner_point a) corner p))
+  wedge_supports : (a b : CornerKey) → SupportBy p (Wedge a b) corner (Some (square_to (corner_point a) corner p))
   wedge_supports a b = record { says = λ bs r. square_holds bs a r.seen_a.key (wedge_first p r) }
 
-  half_supports : (a b : CornerKey) → SupportBy p (Half a b) corner (Support'.Reason (square_to (corner_point a) corner p))
+  half_supports : (a b : CornerKey) → SupportBy p (Half a b) corner (Some (square_to (corner_point a) corner p))
   half_supports a b = record { says = λ bs r. square_holds bs a r.seen_a.key (half_first p r) }
 
-  around_supports : (a b c : CornerKey) → SupportBy p (Around a b c) corner Support'.Surrounded
+  around_supports : (a b c : CornerKey) → SupportBy p (Around a b c) corner None
   around_supports a b c = record { says = λ bs r. r.surrounded }
 
   -- by the case that the cone is
@@ -82,15 +83,15 @@ module _ (k : ℕ) (hk : Key k) (corner : Corner) where
   corner_supports bs h = (cone_supports (view_of k corner bs).cone).says bs (view_says k bs h corner).of_cone
 
   -- so does what was found
-  pub cone_found : (cone : Cone) {r : Support} → r ≡ support_of_cone k cone corner → SupportBy p cone corner r
+  pub cone_found : (cone : Cone) {r : Option Direction} → r ≡ support_of_cone k cone corner → SupportBy p cone corner r
   cone_found cone e = subst (SupportBy p cone corner) (sym e) (cone_supports cone)
 
-  pub corner_found : (bs : List Box) → All BoxInSpan bs → {r : Support} → r ≡ support_of_corner k corner bs → SupportAt bs p corner r
+  pub corner_found : (bs : List Box) → All BoxInSpan bs → {r : Option Direction} → r ≡ support_of_corner k corner bs → SupportAt bs p corner r
   corner_found bs h e = subst (λ r. SupportAt bs p corner r) (sym e) (corner_supports bs h)
 
 -- where that one corner of every box has the plug strictly inside, the cone says so
 module _ (k : ℕ) (corner : Corner) (bs : List Box) (h : Supported (map (from 1 (point_of k)) (corners_of corner bs)) → ⊥) where
-  cone_surrounds : (cone : Cone) → ConeSays bs (corners_of corner bs) (point_of k) cone → Support'.Surrounded ≡ support_of_cone k cone corner
+  cone_surrounds : (cone : Cone) → ConeSays bs (corners_of corner bs) (point_of k) cone → None ≡ support_of_cone k cone corner
   cone_surrounds Nothing r = absurd (h (east_supported (point_of k) r))
   cone_surrounds (Ray a) r = absurd (h (square_supported (point_of k) (corner_point a) (ray_first (point_of k) r)))
   cone_surrounds (Line a b) r = absurd (h (square_supported (point_of k) (corner_point a) (line_first (point_of k) r)))
@@ -98,24 +99,24 @@ module _ (k : ℕ) (corner : Corner) (bs : List Box) (h : Supported (map (from 1
   cone_surrounds (Half a b) r = absurd (h (square_supported (point_of k) (corner_point a) (half_first (point_of k) r)))
   cone_surrounds (Around a b c) r = refl
 
-  pub corner_surrounds : All BoxInSpan bs → Support'.Surrounded ≡ support_of_corner k corner bs
+  pub corner_surrounds : All BoxInSpan bs → None ≡ support_of_corner k corner bs
   corner_surrounds s = cone_surrounds (view_of k corner bs).cone (view_says k bs s corner).of_cone
 
 -- ---- the four corners one after the other
 
 -- three leave the plug strictly inside, and the fourth answers
-support_last : (bs : List Box) (p : Point) (r : Support) → SupportAt bs p SouthWest Support'.Surrounded → SupportAt bs p SouthEast Support'.Surrounded
-    → SupportAt bs p NorthEast Support'.Surrounded → SupportAt bs p NorthWest r → SupportSays bs p r
-support_last bs p Support'.Surrounded sw se ne nw = by_corner (λ c. Supported (map (from 1 p) (corners_of c bs)) → ⊥) sw se ne nw
-support_last bs p (Support'.Reason d) sw se ne nw = nw
+support_last : (bs : List Box) (p : Point) (r : Option Direction) → SupportAt bs p SouthWest None → SupportAt bs p SouthEast None
+    → SupportAt bs p NorthEast None → SupportAt bs p NorthWest r → SupportSays bs p r
+support_last bs p None sw se ne nw = by_corner (λ c. Supported (map (from 1 p) (corners_of c bs)) → ⊥) sw se ne nw
+support_last bs p (Some d) sw se ne nw = nw
 
 -- the first that gives a direction, or none does
-support_first : (bs : List Box) (p : Point) (sw se ne nw : Support) → SupportAt bs p SouthWest sw → SupportAt bs p SouthEast se → SupportAt bs p NorthEast ne → SupportAt bs p NorthWest nw
-    → SupportSays bs p (sw orSupport se orSupport ne orSupport nw)
-support_first bs p (Support'.Reason d) se ne nw hsw hse hne hnw = hsw
-support_first bs p Support'.Surrounded (Support'.Reason d) ne nw hsw hse hne hnw = hse
-support_first bs p Support'.Surrounded Support'.Surrounded (Support'.Reason d) nw hsw hse hne hnw = hne
-support_first bs p Support'.Surrounded Support'.Surrounded Support'.Surrounded nw hsw hse hne hnw = support_last bs p nw hsw hse hne hnw
+support_first : (bs : List Box) (p : Point) (sw se ne nw : Option Direction) → SupportAt bs p SouthWest sw → SupportAt bs p SouthEast se → SupportAt bs p NorthEast ne → SupportAt bs p NorthWest nw
+    → SupportSays bs p (option_or sw (option_or se (option_or ne nw)))
+support_first bs p (Some d) se ne nw hsw hse hne hnw = hsw
+support_first bs p None (Some d) ne nw hsw hse hne hnw = hse
+support_first bs p None None (Some d) nw hsw hse hne hnw = hne
+support_first bs p None None None nw hsw hse hne hnw = support_last bs p nw hsw hse hne hnw
 
 -- what is found by the four corners of every box says so
 pub support_says : (k : ℕ) → Key k → (bs : List Box) → All BoxInSpan bs → (view : View) → CornerViewSays bs SouthWest (point_of k) view → SupportSays bs (point_of k) (support_of k bs view)
@@ -124,6 +125,6 @@ support_says k hk bs h view o =
     ((cone_supports k hk SouthWest view.cone).says bs o.of_cone)
     (corner_supports k hk SouthEast bs h) (corner_supports k hk NorthEast bs h) (corner_supports k hk NorthWest bs h)
 
-pub support_found : (k : ℕ) → Key k → (bs : List Box) → All BoxInSpan bs → (view : View) → CornerViewSays bs SouthWest (point_of k) view → {r : Support} → r ≡ support_of k bs view
+pub support_found : (k : ℕ) → Key k → (bs : List Box) → All BoxInSpan bs → (view : View) → CornerViewSays bs SouthWest (point_of k) view → {r : Option Direction} → r ≡ support_of k bs view
     → SupportSays bs (point_of k) r
 support_found k hk bs h view o e = subst (λ r. SupportSays bs (point_of k) r) (sym e) (support_says k hk bs h view o)

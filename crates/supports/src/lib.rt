@@ -1,26 +1,20 @@
-// What the corners of boxes tell the first driver of a plug, and the direction that shows it, by how they are seen from
-// the plug (crate views).
+// What the corners of boxes tell the first driver of a plug, by how they are seen from the plug (crate views): a
+// direction that shows that the plug is not strictly inside, or none where it is.
 #![tactic(auto)]
 
 ghost use Rattle.std.specs.Prelude.{◌≡◌};
 ghost use Rattle.turns.specs.Keys.{Key, point_of};
-ghost use Rattle.rounds.specs.Boxes.{BoxList, boxes_of, corners_of};
+ghost use Rattle.rounds.specs.Boxes.{boxes_of, corners_of};
 ghost use Rattle.cones.specs.Cones.{Named, ConeSays};
 ghost use Rattle.cones.specs.Wider.{Keyed};
 ghost use Rattle.views.specs.Views.{CornerViewSays};
 ghost use Rattle.supports.specs.Supports.{square_to, SupportAt, TriangleSays, SupportSays, SupportBy};
 ghost use Rattle.supports.specs.Supporting.{support_of_cone, support_of_corner, support_of};
 
+use boxes::Boxes;
 use cones::{Cone, CornerKey};
 use rounds::{Corner, Direction};
 use views::View;
-
-// What some points tell the first driver: the plug is strictly inside their hull; or a direction shows that it is not.
-#[derive(Clone, Copy)]
-pub enum Support {
-    Surrounded,
-    Reason(Direction),
-}
 
 // The direction square to the ray from the plug through a.
 fn square_to(a: CornerKey, corner: Corner, plug: u32) -> Direction
@@ -38,37 +32,38 @@ fn square_to(a: CornerKey, corner: Corner, plug: u32) -> Direction
 
 // What the cone of that one corner of every box tells the first driver: no point is ahead of the direction square to
 // its first ray.
-fn support_by(cone: Cone, corner: Corner, plug: u32) -> Support
+fn support_by(cone: Cone, corner: Corner, plug: u32) -> Option<Direction>
     requires { Key plug × Keyed cone }
     ensures exact { result ≡ support_of_cone plug cone corner }
     ensures supports { SupportBy (point_of plug) cone corner result }
 {
     match cone {
-        Cone::Nothing => Support::Reason(Direction {
+        Cone::Nothing => Some(Direction {
             corner,
             east: 1,
             north: 0,
         }),
-        Cone::Ray(a) => Support::Reason(square_to(a, corner, plug)),
-        Cone::Line(a, _) => Support::Reason(square_to(a, corner, plug)),
-        Cone::Wedge(a, _) => Support::Reason(square_to(a, corner, plug)),
-        Cone::Half(a, _) => Support::Reason(square_to(a, corner, plug)),
-        Cone::Around(_, _, _) => Support::Surrounded,
+        Cone::Ray(a) => Some(square_to(a, corner, plug)),
+        Cone::Line(a, _) => Some(square_to(a, corner, plug)),
+        Cone::Wedge(a, _) => Some(square_to(a, corner, plug)),
+        Cone::Half(a, _) => Some(square_to(a, corner, plug)),
+        Cone::Around(_, _, _) => None,
     }
 }
 
 // Whether the plug is strictly inside the triangle of that one corner of three boxes, which are known by their numbers.
 fn is_in_triangle(
-    boxes: &[i32],
+    boxes: Boxes,
     corner: Corner,
     a: CornerKey,
     b: CornerKey,
     c: CornerKey,
     plug: u32,
 ) -> bool
-    requires box_list { BoxList boxes.now × Key plug }
-    requires named { Named (boxes_of boxes.now) a × Named (boxes_of boxes.now) b × Named (boxes_of boxes.now) c }
-    ensures { TriangleSays (boxes_of boxes.now) (point_of plug) corner result }
+    requires key { Key plug }
+    requires named { Named (boxes_of boxes.numbers.now) a × Named (boxes_of boxes.numbers.now) b
+        × Named (boxes_of boxes.numbers.now) c }
+    ensures { TriangleSays (boxes_of boxes.entry.numbers.now) (point_of plug) corner result }
 {
     let u = corners::corner_key(boxes, a.number as usize - 1, corner);
     let v = corners::corner_key(boxes, b.number as usize - 1, corner);
@@ -78,16 +73,16 @@ fn is_in_triangle(
 
 // What that one corner of every box tells the first driver. Where the south-west corners of three boxes are round the
 // plug, the same boxes are tried first.
-fn support_at(boxes: &[i32], corner: Corner, plug: u32, southwest: Cone) -> Support
-    requires box_list { BoxList boxes.now × Key plug }
-    requires cone_says { ConeSays (boxes_of boxes.now)
-        (corners_of Corner.SouthWest (boxes_of boxes.now)) (point_of plug) southwest }
-    ensures exact { result ≡ support_of_corner plug corner (boxes_of boxes.now) }
-    ensures supports { SupportAt (boxes_of boxes.now) (point_of plug) corner result }
+fn support_at(boxes: Boxes, corner: Corner, plug: u32, southwest: Cone) -> Option<Direction>
+    requires key { Key plug }
+    requires cone_says { ConeSays (boxes_of boxes.numbers.now)
+        (corners_of Corner.SouthWest (boxes_of boxes.numbers.now)) (point_of plug) southwest }
+    ensures exact { result ≡ support_of_corner plug corner (boxes_of boxes.entry.numbers.now) }
+    ensures supports { SupportAt (boxes_of boxes.entry.numbers.now) (point_of plug) corner result }
 {
     if let Cone::Around(a, b, c) = southwest {
         if is_in_triangle(boxes, corner, a, b, c, plug) {
-            return Support::Surrounded;
+            return None;
         }
     }
     let view = views::view_of(boxes, corner, plug);
@@ -96,24 +91,24 @@ fn support_at(boxes: &[i32], corner: Corner, plug: u32, southwest: Cone) -> Supp
 }
 
 // What the four corners of the boxes tell the first driver, where the south-west corners' view is known.
-pub fn support_of(boxes: &[i32], plug: u32, view: View) -> Support
-    requires box_list { BoxList boxes.now × Key plug }
-    requires corner_view_says { CornerViewSays (boxes_of boxes.now) Corner.SouthWest (point_of plug) view }
-    ensures exact { result ≡ support_of plug (boxes_of boxes.now) view }
-    ensures supports { SupportSays (boxes_of boxes.now) (point_of plug) result }
+pub fn support_of(boxes: Boxes, plug: u32, view: View) -> Option<Direction>
+    requires key { Key plug }
+    requires corner_view_says { CornerViewSays (boxes_of boxes.numbers.now) Corner.SouthWest (point_of plug) view }
+    ensures exact { result ≡ support_of plug (boxes_of boxes.entry.numbers.now) view }
+    ensures supports { SupportSays (boxes_of boxes.entry.numbers.now) (point_of plug) result }
 {
     let cone = view.cone;
     let sw = support_by(cone, Corner::SouthWest, plug);
-    if let Support::Reason(direction) = sw {
-        return Support::Reason(direction);
+    if let Some(direction) = sw {
+        return Some(direction);
     }
     let se = support_at(boxes, Corner::SouthEast, plug, cone);
-    if let Support::Reason(direction) = se {
-        return Support::Reason(direction);
+    if let Some(direction) = se {
+        return Some(direction);
     }
     let ne = support_at(boxes, Corner::NorthEast, plug, cone);
-    if let Support::Reason(direction) = ne {
-        return Support::Reason(direction);
+    if let Some(direction) = ne {
+        return Some(direction);
     }
     support_at(boxes, Corner::NorthWest, plug, cone)
 }

@@ -24,18 +24,18 @@ use Rattle.supports.proofs.is_in_triangle.Goals as goal
 use Rattle.supports.proofs.is_in_triangle.Goals.{Start}
 
 -- a box's number is one of the list's, and the box stands one place before it
-module _ (s : Start) {v : CornerKey} (n : Named (boxes_of s.args.boxes.now) v) where
+module _ (s : Start) {v : CornerKey} (n : Named (boxes_of s.args.boxes.numbers.now) v) where
   small : v.number ≤ 1024
-  small = omega (arith, n.most, boxes_length s.args.boxes.now, s.requires.box_list.0.few)
+  small = omega (arith, n.most, boxes_length s.args.boxes.numbers.now, s.args.boxes.accepted.few)
 
-  place : v.number - 1 < length s.args.boxes.now / 4
-  place = omega (arith, n.least, n.most, boxes_length s.args.boxes.now)
+  place : v.number - 1 < length s.args.boxes.numbers.now / 4
+  place = omega (arith, n.least, n.most, boxes_length s.args.boxes.numbers.now)
 
   -- that one corner of it is a corner of the list
-  listed : (q : Point) → q ≡ nth_corner s.args.corner (boxes_of s.args.boxes.now) (v.number - 1) → q ∈ corners_of s.args.corner (boxes_of s.args.boxes.now)
+  listed : (q : Point) → q ≡ nth_corner s.args.corner (boxes_of s.args.boxes.numbers.now) (v.number - 1) → q ∈ corners_of s.args.corner (boxes_of s.args.boxes.numbers.now)
   listed q e =
-      let l : v.number - 1 < length (corners_of s.args.corner (boxes_of s.args.boxes.now)) = omega (arith, place, corners_length s.args.corner s.args.boxes.now) in
-      subst (λ x. x ∈ corners_of s.args.corner (boxes_of s.args.boxes.now)) (sym e) (in_by_index (point (pos 0) (pos 0)) _ (v.number - 1) l)
+      let l : v.number - 1 < length (corners_of s.args.corner (boxes_of s.args.boxes.numbers.now)) = omega (arith, place, corners_length s.args.corner s.args.boxes.numbers.now) in
+      subst (λ x. x ∈ corners_of s.args.corner (boxes_of s.args.boxes.numbers.now)) (sym e) (in_by_index (point (pos 0) (pos 0)) _ (v.number - 1) l)
 
 all_three : (t u v : Bool) → t && (u && v) ≡ true → (t ≡ true) × (u ≡ true) × (v ≡ true)
 all_three true true true e = (refl, refl, refl)
@@ -50,7 +50,7 @@ pub overflow_sub-a : goal.overflow_sub-a
 overflow_sub-a c = c.requires.named.0.least
 
 pub corner_key-u-requires : goal.corner_key-u-requires
-corner_key-u-requires c = (c.requires.box_list.0, place c.before c.requires.named.0)
+corner_key-u-requires c = place c.before c.requires.named.0
 
 pub overflow_cast-b : goal.overflow_cast-b
 overflow_cast-b c = omega (arith, small c.before.before.before c.requires.named.1)
@@ -59,7 +59,7 @@ pub overflow_sub-b : goal.overflow_sub-b
 overflow_sub-b c = c.requires.named.1.least
 
 pub corner_key-v-requires : goal.corner_key-v-requires
-corner_key-v-requires c = (c.requires.box_list.0, place c.before.before.before c.requires.named.1)
+corner_key-v-requires c = place c.before.before.before c.requires.named.1
 
 pub overflow_cast-c : goal.overflow_cast-c
 overflow_cast-c c = omega (arith, small c.before.before.before.before.before c.requires.named.2)
@@ -68,16 +68,16 @@ pub overflow_sub-c : goal.overflow_sub-c
 overflow_sub-c c = c.requires.named.2.least
 
 pub corner_key-w-requires : goal.corner_key-w-requires
-corner_key-w-requires c = (c.requires.box_list.0, place c.before.before.before.before.before c.requires.named.2)
+corner_key-w-requires c = place c.before.before.before.before.before c.requires.named.2
 
 pub turns_left-requires : goal.turns_left-requires
-turns_left-requires c = (c.requires.box_list.1, c.corner_key-u.ensures.key, c.corner_key-v.ensures.key)
+turns_left-requires c = (c.requires.key, c.corner_key-u.ensures.key, c.corner_key-v.ensures.key)
 
 pub turns_left-requires-2 : goal.turns_left-requires-2
-turns_left-requires-2 c = (c.requires.box_list.1, c.corner_key-v.ensures.key, c.corner_key-w.ensures.key)
+turns_left-requires-2 c = (c.requires.key, c.corner_key-v.ensures.key, c.corner_key-w.ensures.key)
 
 pub turns_left-requires-3 : goal.turns_left-requires-3
-turns_left-requires-3 c = (c.requires.box_list.1, c.corner_key-w.ensures.key, c.corner_key-u.ensures.key)
+turns_left-requires-3 c = (c.requires.key, c.corner_key-w.ensures.key, c.corner_key-u.ensures.key)
 
 pub returns : goal.returns
 returns c =

@@ -13,22 +13,22 @@ use Rattle.supports.proofs.support_at.Goals as goal
 
 pub is_in_triangle-requires : goal.is_in_triangle-requires
 is_in_triangle-requires c =
-    let r = subst (ConeSays (boxes_of c.args.boxes.now) (corners_of SouthWest (boxes_of c.args.boxes.now)) (point_of c.args.plug)) c.in-Around.is c.requires.cone_says in
-    record { box_list = c.requires.box_list; named = (r.seen_a.named, r.seen_b.named, r.seen_c.named) }
+    let r = subst (ConeSays (boxes_of c.args.boxes.numbers.now) (corners_of SouthWest (boxes_of c.args.boxes.numbers.now)) (point_of c.args.plug)) c.in-Around.is c.requires.cone_says in
+    record { key = c.requires.key; named = (r.seen_a.named, r.seen_b.named, r.seen_c.named) }
 
 pub returns-then-is_in_triangle : goal.returns-then-is_in_triangle
 returns-then-is_in_triangle c =
-    let e = corner_surrounds c.args.plug c.args.corner (boxes_of c.args.boxes.now) (c.is_in_triangle.ensures.surrounded c.if-is_in_triangle.true) c.requires.box_list.0.in_span in
-    record { exact = e; supports = corner_found c.args.plug c.requires.box_list.1 c.args.corner (boxes_of c.args.boxes.now) c.requires.box_list.0.in_span e }
+    let e = corner_surrounds c.args.plug c.args.corner (boxes_of c.args.boxes.numbers.now) (c.is_in_triangle.ensures.surrounded c.if-is_in_triangle.true) c.args.boxes.accepted.in_span in
+    record { exact = e; supports = corner_found c.args.plug c.requires.key c.args.corner (boxes_of c.args.boxes.numbers.now) c.args.boxes.accepted.in_span e }
 
 pub view_of-view-requires : goal.view_of-view-requires
-view_of-view-requires c = c.requires.box_list
+view_of-view-requires c = c.requires.key
 
 pub support_by-requires : goal.support_by-requires
 support_by-requires c =
-    (c.requires.box_list.1, subst (λ (v : View). Keyed v.cone) (sym c.view_of-view.ensures.exact) (view_keyed c.args.plug (boxes_of c.args.boxes.now) c.requires.box_list.0.in_span c.args.corner))
+    (c.requires.key, subst (λ (v : View). Keyed v.cone) (sym c.view_of-view.ensures.exact) (view_keyed c.args.plug (boxes_of c.args.boxes.numbers.now) c.args.boxes.accepted.in_span c.args.corner))
 
 pub returns : goal.returns
 returns c =
     let e = c.support_by.ensures.exact ∙ ap (λ (w : View). support_of_cone c.args.plug w.cone c.args.corner) c.view_of-view.ensures.exact in
-    record { exact = e; supports = corner_found c.args.plug c.requires.box_list.1 c.args.corner (boxes_of c.args.boxes.now) c.requires.box_list.0.in_span e }
+    record { exact = e; supports = corner_found c.args.plug c.requires.key c.args.corner (boxes_of c.args.boxes.numbers.now) c.args.boxes.accepted.in_span e }

@@ -1,18 +1,18 @@
 -- `supports::support_by` meets its contract: the cone is the case that is matched. Assumes nothing.
+use Rattle.std.specs.Prelude.{Option, Some}
 use mathlib.Core.Path.{◌≡◌, refl, sym, ◌∙◌, ap, subst}
 use Prim.Native.Nat.{ℕ}
 use Rattle.rounds.specs.declared.Corner.{Corner}
+use Rattle.rounds.specs.declared.Direction.{Direction}
 use Rattle.cones.specs.Wider.{Keyed}
 use Rattle.cones.specs.declared.Cone.{Cone}
 use Rattle.cones.proofs.Wider.{first_key}
 use Rattle.supports.specs.Supporting.{support_of_cone}
-use Rattle.supports.specs.declared.Support.{Support}
-use Rattle.supports.specs.declared.Support.TheVariants.{Reason}
 use Rattle.supports.proofs.Answering.{cone_found}
 use Rattle.supports.proofs.support_by.Goals as goal
 
 -- what is found of the case is found of the cone
-same : (plug : ℕ) (corner : Corner) {cone case : Cone} {r : Support} → cone ≡ case → r ≡ support_of_cone plug case corner → r ≡ support_of_cone plug cone corner
+same : (plug : ℕ) (corner : Corner) {cone case : Cone} {r : Option Direction} → cone ≡ case → r ≡ support_of_cone plug case corner → r ≡ support_of_cone plug cone corner
 same plug corner e f = f ∙ ap (λ x. support_of_cone plug x corner) (sym e)
 
 pub square_to-requires : goal.square_to-requires
@@ -38,22 +38,22 @@ returns-in-Nothing c =
 
 pub returns-in-Ray : goal.returns-in-Ray
 returns-in-Ray c =
-    let e = same c.args.plug c.args.corner c.in-Ray.is (ap Reason c.square_to.ensures) in
+    let e = same c.args.plug c.args.corner c.in-Ray.is (ap Some c.square_to.ensures) in
     record { exact = e; supports = cone_found c.args.plug c.requires.0 c.args.corner c.args.cone e }
 
 pub returns-in-Line : goal.returns-in-Line
 returns-in-Line c =
-    let e = same c.args.plug c.args.corner c.in-Line.is (ap Reason c.square_to-in-Line.ensures) in
+    let e = same c.args.plug c.args.corner c.in-Line.is (ap Some c.square_to-in-Line.ensures) in
     record { exact = e; supports = cone_found c.args.plug c.requires.0 c.args.corner c.args.cone e }
 
 pub returns-in-Wedge : goal.returns-in-Wedge
 returns-in-Wedge c =
-    let e = same c.args.plug c.args.corner c.in-Wedge.is (ap Reason c.square_to-in-Wedge.ensures) in
+    let e = same c.args.plug c.args.corner c.in-Wedge.is (ap Some c.square_to-in-Wedge.ensures) in
     record { exact = e; supports = cone_found c.args.plug c.requires.0 c.args.corner c.args.cone e }
 
 pub returns-in-Half : goal.returns-in-Half
 returns-in-Half c =
-    let e = same c.args.plug c.args.corner c.in-Half.is (ap Reason c.square_to-in-Half.ensures) in
+    let e = same c.args.plug c.args.corner c.in-Half.is (ap Some c.square_to-in-Half.ensures) in
     record { exact = e; supports = cone_found c.args.plug c.requires.0 c.args.corner c.args.cone e }
 
 pub returns-in-Around : goal.returns-in-Around
