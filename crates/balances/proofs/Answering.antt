@@ -1,4 +1,6 @@
 -- What a cone and a view tell the second driver. Assumes nothing.
+use Rattle.std.specs.Option.{option_or}
+use Rattle.std.specs.Prelude.{Option, Some, None}
 use Prim.Native.Nat.{ℕ, ◌+◌, ◌≤◌, ◌<◌}
 use mathlib.Core.Path.{◌≡◌, refl, sym, ap, subst}
 use mathlib.Core.List.{List, [], ◌∷◌, ◌++◌}
@@ -33,28 +35,25 @@ use Rattle.views.specs.Views.{ViewSays, CornerViewSays}
 use Rattle.views.specs.Looking.{looked_over}
 use Rattle.views.specs.declared.View.{View}
 use Rattle.views.proofs.Viewing.{looks_over}
-use Rattle.passes.specs.declared.Met.{Met}
-use Rattle.passes.specs.declared.Met.TheVariants.{Nowhere, At}
 use Rattle.passes.specs.declared.CornerSet.TheVariants.{Four}
-use Rattle.balances.specs.Balances.{BetweenCorners, InTriangle, BalanceAt, BalanceSays, BalanceAmong, BalanceByCone, BalanceBy}
-use Rattle.balances.specs.Balancing.{between_two, among_three, balance_of_cone, balance_by_met, balance_of_view, ◌orBalance◌, balance_of}
+use Rattle.balances.specs.Balances.{entries, BetweenCorners, InTriangle, BalanceAt, BalanceSays, BalanceAmong, BalanceByCone, BalanceBy}
+use Rattle.balances.specs.Balancing.{between_two, among_three, balance_of_cone, balance_by_met, balance_of_view, balance_of}
 use Rattle.cones.specs.declared.CornerKey.{CornerKey}
 use Rattle.cones.specs.declared.Cone.{Cone}
 use Rattle.cones.specs.declared.Cone.TheVariants.{Nothing, Ray, Line, Wedge, Half, Around}
-use Rattle.balances.specs.declared.Balance.{Balance}
-use Rattle.balances.specs.declared.Balance.TheVariants as Balance'
+use Rattle.balances.specs.declared.Entries.{Entries}
 use Rattle.cones.proofs.Turns.{apart_opposite, back_ahead, ray_strict, wedge_strict}
 use Rattle.cones.proofs.FirstRay.{ray_first, wedge_first, square_supported, east_supported}
 
 -- ---- the second driver, where no three balance
 
 module _ (p : Point) where
-  nothing_separates : BalanceByCone p Nothing Balance'.Separated
+  nothing_separates : BalanceByCone p Nothing None
   nothing_separates =
       record { says = λ bs qs h n. record { a = pos 0; b = pos 0; behind = all_map (from 1 p) (all_both (λ q e ne. absurd (ne e)) h (n (east_supported p h))) } }
 
   -- every point is strictly ahead on the ray, so strictly behind the other way
-  ray_separates : (a : CornerKey) → BalanceByCone p (Ray a) Balance'.Separated
+  ray_separates : (a : CornerKey) → BalanceByCone p (Ray a) None
   ray_separates a =
       record {
         says = λ bs qs r n. record {
@@ -70,7 +69,7 @@ module _ (p : Point) where
       strict q l ne h = not-≤ (λ z. ray_strict p (corner_point a) q l.0 (≤-antisym z l.1) h (apart_length p q (λ e. ne (sym e))))
 
   -- every point is strictly in front of the side from a to b, turned to the plug
-  wedge_separates : (a b : CornerKey) → BalanceByCone p (Wedge a b) Balance'.Separated
+  wedge_separates : (a b : CornerKey) → BalanceByCone p (Wedge a b) None
   wedge_separates a b =
       record {
         says = λ bs qs r n. record {
@@ -93,13 +92,13 @@ module _ (p : Point) where
 
   -- ---- the second driver, where two or three of the points balance
 
-  line_balances : (a b : CornerKey) {r : Balance} → BalanceAmong p (a ∷ b ∷ []) r → BalanceByCone p (Line a b) r
+  line_balances : (a b : CornerKey) {r : Option Entries} → BalanceAmong p (a ∷ b ∷ []) r → BalanceByCone p (Line a b) r
   line_balances a b h = record { says = λ bs qs l n. h.says bs qs (l.seen_a.named & l.seen_b.named & none) }
 
-  half_balances : (a b : CornerKey) {r : Balance} → BalanceAmong p (a ∷ b ∷ []) r → BalanceByCone p (Half a b) r
+  half_balances : (a b : CornerKey) {r : Option Entries} → BalanceAmong p (a ∷ b ∷ []) r → BalanceByCone p (Half a b) r
   half_balances a b h = record { says = λ bs qs l n. h.says bs qs (l.seen_a.named & l.seen_b.named & none) }
 
-  around_balances : (a b c : CornerKey) {r : Balance} → BalanceAmong p (a ∷ b ∷ c ∷ []) r → BalanceByCone p (Around a b c) r
+  around_balances : (a b c : CornerKey) {r : Option Entries} → BalanceAmong p (a ∷ b ∷ c ∷ []) r → BalanceByCone p (Around a b c) r
   around_balances a b c h = record { says = λ bs qs l n. h.says bs qs (l.seen_a.named & l.seen_b.named & l.seen_c.named & none) }
 
   pub line_between : {bs : List Box} {qs : List Point} (a b : CornerKey) → AllOnLine bs qs p a b → BetweenCorners p a b
@@ -185,7 +184,7 @@ module _ (a b : CornerKey) (k : ℕ) (h : BetweenCorners (point_of k) a b) where
 
   -- each is weighed by how far the plug lies ahead of the other
   between_among : Key k → (m n : ℕ) → pos m ≡ dot_product (corner_point b) (corner_point a) (point_of k) → pos n ≡ dot_product (corner_point a) (corner_point b) (point_of k)
-      → BalanceAmong (point_of k) (a ∷ b ∷ []) (Balance'.Reason (entry_of a m) (entry_of b n) (entry_of a 0))
+      → BalanceAmong (point_of k) (a ∷ b ∷ []) (Some (entries (entry_of a m) (entry_of b n) (entry_of a 0)))
   between_among hk m n hm hn = record { says = λ bs qs l. go l }
     where
       straight : signed_area (corner_point a) (corner_point b) (point_of k) ≡ pos 0
@@ -208,7 +207,7 @@ module _ (a b : CornerKey) (k : ℕ) (h : BetweenCorners (point_of k) a b) where
 -- each is weighed by the area of the other two and the plug
 triangle_among : (a b c : CornerKey) (k : ℕ) → InTriangle (point_of k) a b c → Key k → (l m n : ℕ)
     → pos l ≡ signed_area (point_of k) (corner_point b) (corner_point c) → pos m ≡ signed_area (point_of k) (corner_point c) (corner_point a) → pos n ≡ signed_area (point_of k) (corner_point a) (corner_point b)
-    → BalanceAmong (point_of k) (a ∷ b ∷ c ∷ []) (Balance'.Reason (entry_of a l) (entry_of b m) (entry_of c n))
+    → BalanceAmong (point_of k) (a ∷ b ∷ c ∷ []) (Some (entries (entry_of a l) (entry_of b m) (entry_of c n)))
 triangle_among a b c k h hk l m n hl hm hn = record { says = λ bs qs s. go s }
   where
     go : {bs : List Box} → All (Named bs) (a ∷ b ∷ c ∷ []) → EntriesHold bs (point_of k) (entry_of a l ∷ entry_of b m ∷ entry_of c n ∷ [])
@@ -239,9 +238,9 @@ corner_of_every NorthEast (b ∷ bs) (sw & se & ne & nw & more) = ne & corner_of
 corner_of_every NorthWest (b ∷ bs) (sw & se & ne & nw & more) = nw & corner_of_every NorthWest bs more
 
 -- what they tell the second driver, behind other points, all corners tell
-balance_all : (bs : List Box) (qs : List Point) (p : Point) (r : Balance) → BalanceAt bs (qs ++ corners_by Four bs) p r → BalanceSays bs p r
-balance_all bs qs p (Balance'.Reason a b c) h = h
-balance_all bs qs p Balance'.Separated h = record { a = h.a; b = h.b; behind = all_map (from 1 p) (all_append (all_append (all_append (corner SouthWest) (corner SouthEast)) (corner NorthEast)) (corner NorthWest)) }
+balance_all : (bs : List Box) (qs : List Point) (p : Point) (r : Option Entries) → BalanceAt bs (qs ++ corners_by Four bs) p r → BalanceSays bs p r
+balance_all bs qs p (Some e) h = h
+balance_all bs qs p None h = record { a = h.a; b = h.b; behind = all_map (from 1 p) (all_append (all_append (all_append (corner SouthWest) (corner SouthEast)) (corner NorthEast)) (corner NorthWest)) }
   where
     four : All (λ q. along h.a h.b (from 1 p q) <ℤ pos 0) (corners_by Four bs)
     four = all_right qs (corners_by Four bs) (all_unmap (from 1 p) (qs ++ corners_by Four bs) h.behind)
@@ -276,17 +275,17 @@ module _ (k : ℕ) (hk : Key k) where
   cone_found (Around a b c) h = around_balances p a b c (three_found a b c (around_triangle p a b c h.says))
 
   -- by the view
-  met_found : (bs : List Box) (qs : List Point) (cone : Cone) (met : Met) → ConeSays bs qs p cone → MetSays bs qs p met → BalanceAt bs qs p (balance_by_met k met cone)
-  met_found bs qs cone Nowhere c m = (cone_found cone (record { boxes = bs; points = qs; says = c })).says bs qs c m
-  met_found bs qs cone (At v) c m = plug_holds p v m
+  met_found : (bs : List Box) (qs : List Point) (cone : Cone) (met : Option CornerKey) → ConeSays bs qs p cone → MetSays bs qs p met → BalanceAt bs qs p (balance_by_met k met cone)
+  met_found bs qs cone None c m = (cone_found cone (record { boxes = bs; points = qs; says = c })).says bs qs c m
+  met_found bs qs cone (Some v) c m = plug_holds p v m
 
   view_found : (bs : List Box) (qs : List Point) (view : View) → ViewSays bs qs p view → BalanceAt bs qs p (balance_of_view k view)
   view_found bs qs view o = met_found bs qs view.cone view.met o.of_cone o.of_met
 
   -- by some corners, else by all
-  first_found : (bs : List Box) (qs : List Point) (a b : Balance) → BalanceAt bs qs p a → BalanceSays bs p b → BalanceSays bs p (a orBalance b)
-  first_found bs qs Balance'.Separated b h g = g
-  first_found bs qs (Balance'.Reason u v w) b h g = h
+  first_found : (bs : List Box) (qs : List Point) (a b : Option Entries) → BalanceAt bs qs p a → BalanceSays bs p b → BalanceSays bs p (option_or a b)
+  first_found bs qs None b h g = g
+  first_found bs qs (Some e) b h g = h
 
   pub balance_says : (bs : List Box) → All BoxInSpan bs → (view : View) → CornerViewSays bs SouthWest p view → BalanceSays bs p (balance_of k bs view)
   balance_says bs h view o =
@@ -296,17 +295,17 @@ module _ (k : ℕ) (hk : Key k) where
       (balance_all bs sw p (balance_of_view k all) (view_found bs (sw ++ corners_by Four bs) all ((looks_over k bs h Four view).says sw o)))
 
   -- so does what was found
-  pub two_says : (a b : CornerKey) → BetweenCorners p a b → {r : Balance} → r ≡ between_two k a b → BalanceAmong p (a ∷ b ∷ []) r
+  pub two_says : (a b : CornerKey) → BetweenCorners p a b → {r : Option Entries} → r ≡ between_two k a b → BalanceAmong p (a ∷ b ∷ []) r
   two_says a b h e = subst (BalanceAmong p (a ∷ b ∷ [])) (sym e) (two_found a b h)
 
-  pub three_says : (a b c : CornerKey) → InTriangle p a b c → {r : Balance} → r ≡ among_three k a b c → BalanceAmong p (a ∷ b ∷ c ∷ []) r
+  pub three_says : (a b c : CornerKey) → InTriangle p a b c → {r : Option Entries} → r ≡ among_three k a b c → BalanceAmong p (a ∷ b ∷ c ∷ []) r
   three_says a b c h e = subst (BalanceAmong p (a ∷ b ∷ c ∷ [])) (sym e) (three_found a b c h)
 
-  pub cone_says : (cone : Cone) → Known p cone → {r : Balance} → r ≡ balance_of_cone k cone → BalanceByCone p cone r
+  pub cone_says : (cone : Cone) → Known p cone → {r : Option Entries} → r ≡ balance_of_cone k cone → BalanceByCone p cone r
   cone_says cone h e = subst (BalanceByCone p cone) (sym e) (cone_found cone h)
 
-  pub by_view : (view : View) {r : Balance} → r ≡ balance_of_view k view → BalanceBy p view r
+  pub by_view : (view : View) {r : Option Entries} → r ≡ balance_of_view k view → BalanceBy p view r
   by_view view e = record { says = λ bs qs o. subst (λ r. BalanceAt bs qs p r) (sym e) (view_found bs qs view o) }
 
-  pub by_all : (bs : List Box) → All BoxInSpan bs → (view : View) → CornerViewSays bs SouthWest p view → {r : Balance} → r ≡ balance_of k bs view → BalanceSays bs p r
+  pub by_all : (bs : List Box) → All BoxInSpan bs → (view : View) → CornerViewSays bs SouthWest p view → {r : Option Entries} → r ≡ balance_of k bs view → BalanceSays bs p r
   by_all bs h view o e = subst (λ r. BalanceSays bs p r) (sym e) (balance_says bs h view o)

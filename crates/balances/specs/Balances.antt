@@ -1,5 +1,5 @@
 -- What the corners of boxes tell the second driver of a plug, and what a cone and a view tell. Definitions only.
-use Rattle.std.specs.Prelude.{◌≡◌, List, [], ◌∷◌, map, pos, ◌≤ℤ◌, ◌<ℤ◌}
+use Rattle.std.specs.Prelude.{Option, Some, None, ◌≡◌, List, [], ◌∷◌, map, pos, ◌≤ℤ◌, ◌<ℤ◌}
 use Rattle.plane.specs.Points.{signed_area, dot_product}
 use Rattle.plane.specs.declared.Point.{Point}
 use Rattle.plane.specs.Members.{All}
@@ -8,22 +8,26 @@ use Rattle.turns.specs.Keys.{Key}
 use Rattle.rounds.specs.Boxes.{all_corners}
 use Rattle.rounds.specs.Reasons.{EntriesHold}
 use Rattle.rounds.specs.declared.Box.{Box}
+use Rattle.rounds.specs.declared.Entry.{Entry}
 use Rattle.cones.specs.Cones.{corner_point, Named, ConeSays}
 use Rattle.passes.specs.Passes.{NoneAt}
 use Rattle.views.specs.Views.{ViewSays}
 use Rattle.cones.specs.declared.CornerKey.{CornerKey}
 use Rattle.cones.specs.declared.Cone.{Cone}
 use Rattle.views.specs.declared.View.{View}
-use Rattle.balances.specs.declared.Balance.{Balance}
-use Rattle.balances.specs.declared.Balance.TheVariants as Balance'
+use Rattle.balances.specs.declared.Entries.{Entries}
+
+-- the three entries of a reason
+abbrev pub entries : Entry → Entry → Entry → Entries
+entries a b c = record { first = a; second = b; third = c }
 
 -- what some corners qs of the boxes tell: a direction has them strictly behind the plug, so that nothing balances; or three entries balance
-abbrev pub BalanceAt : List Box → List Point → Point → Balance → Type 0
-BalanceAt bs qs p Balance'.Separated = StrictlyBehind (map (from 1 p) qs)
-BalanceAt bs qs p (Balance'.Reason a b c) = EntriesHold bs p (a ∷ b ∷ c ∷ [])
+abbrev pub BalanceAt : List Box → List Point → Point → Option Entries → Type 0
+BalanceAt bs qs p None = StrictlyBehind (map (from 1 p) qs)
+BalanceAt bs qs p (Some e) = EntriesHold bs p (e.first ∷ e.second ∷ e.third ∷ [])
 
 -- what all corners of the boxes tell
-abbrev pub BalanceSays : List Box → Point → Balance → Type 0
+abbrev pub BalanceSays : List Box → Point → Option Entries → Type 0
 BalanceSays bs p r = BalanceAt bs (all_corners bs) p r
 
 -- p is between a and b, in line with them
@@ -43,13 +47,13 @@ pub record InTriangle (p : Point) (a b c : CornerKey) : Type 0 where
   pub of_c_a : pos 0 <ℤ signed_area p (corner_point c) (corner_point a)
 
 -- the answer balances at p, for all boxes that have those corners
-pub record BalanceAmong (p : Point) (vs : List CornerKey) (r : Balance) : Type 0 where
+pub record BalanceAmong (p : Point) (vs : List CornerKey) (r : Option Entries) : Type 0 where
   pub says : (bs : List Box) (qs : List Point) → All (Named bs) vs → BalanceAt bs qs p r
 
 -- what the cone tells, whatever points they are, if none is the plug where it is not strictly inside
-pub record BalanceByCone (p : Point) (cone : Cone) (r : Balance) : Type 0 where
+pub record BalanceByCone (p : Point) (cone : Cone) (r : Option Entries) : Type 0 where
   pub says : (bs : List Box) (qs : List Point) → ConeSays bs qs p cone → (Supported (map (from 1 p) qs) → NoneAt p qs) → BalanceAt bs qs p r
 
 -- what the view tells, whatever points they are
-pub record BalanceBy (p : Point) (view : View) (r : Balance) : Type 0 where
+pub record BalanceBy (p : Point) (view : View) (r : Option Entries) : Type 0 where
   pub says : (bs : List Box) (qs : List Point) → ViewSays bs qs p view → BalanceAt bs qs p r

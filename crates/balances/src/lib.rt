@@ -1,26 +1,28 @@
-// What the corners of boxes tell the second driver of a plug, and the entries that show it, by how they are seen from
-// the plug (crate views).
+// What the corners of boxes tell the second driver of a plug, by how they are seen from the plug (crate views): three
+// entries that balance, or none where a direction has all corners strictly behind the plug.
 #![tactic(auto)]
 
 ghost use Rattle.std.specs.Prelude.{◌≡◌, [], ◌∷◌};
 ghost use Rattle.turns.specs.Keys.{Key, point_of};
-ghost use Rattle.rounds.specs.Boxes.{BoxList, boxes_of};
+ghost use Rattle.rounds.specs.Boxes.{boxes_of};
 ghost use Rattle.cones.specs.Cones.{entry_of, Known};
 ghost use Rattle.views.specs.Views.{CornerViewSays};
 ghost use Rattle.balances.specs.Balances.{BetweenCorners, InTriangle};
 ghost use Rattle.balances.specs.Balances.{BalanceSays, BalanceAmong, BalanceByCone, BalanceBy};
 ghost use Rattle.balances.specs.Balancing.{between_two, among_three, balance_of_cone, balance_of_view, balance_of};
 
+use boxes::Boxes;
 use cones::{Cone, CornerKey};
-use passes::{CornerSet, Met};
+use passes::CornerSet;
 use rounds::{Corner, Entry};
 use views::View;
 
-// What some points tell the second driver: a direction has them all strictly behind the plug; or three entries balance.
-#[derive(Clone, Copy)]
-pub enum Balance {
-    Separated,
-    Reason(Entry, Entry, Entry),
+// The three entries of a reason.
+#[derive(Clone, Copy, Debug, PartialEq, Eq)]
+pub struct Entries {
+    pub first: Entry,
+    pub second: Entry,
+    pub third: Entry,
 }
 
 // The entry that names the corner, with a weight.
@@ -36,18 +38,22 @@ fn entry_of(v: CornerKey, weight: u32) -> Entry
 }
 
 // Two points on opposite sides of the plug, each with the plug's distance from the other for its weight.
-fn balance_between(a: CornerKey, b: CornerKey, plug: u32) -> Balance
+fn balance_between(a: CornerKey, b: CornerKey, plug: u32) -> Option<Entries>
     requires { Key plug × BetweenCorners (point_of plug) a b }
     ensures exact { result ≡ between_two plug a b }
     ensures balances { BalanceAmong (point_of plug) (a ∷ b ∷ []) result }
 {
     let at_a = turns::positive_dot_product(b.key, a.key, plug);
     let at_b = turns::positive_dot_product(a.key, b.key, plug);
-    Balance::Reason(entry_of(a, at_a), entry_of(b, at_b), entry_of(a, 0))
+    Some(Entries {
+        first: entry_of(a, at_a),
+        second: entry_of(b, at_b),
+        third: entry_of(a, 0),
+    })
 }
 
 // Three points with the plug in their triangle, each with the area of the other two and the plug for its weight.
-fn balance_in_triangle(a: CornerKey, b: CornerKey, c: CornerKey, plug: u32) -> Balance
+fn balance_in_triangle(a: CornerKey, b: CornerKey, c: CornerKey, plug: u32) -> Option<Entries>
     requires { Key plug × InTriangle (point_of plug) a b c }
     ensures exact { result ≡ among_three plug a b c }
     ensures balances { BalanceAmong (point_of plug) (a ∷ b ∷ c ∷ []) result }
@@ -55,49 +61,55 @@ fn balance_in_triangle(a: CornerKey, b: CornerKey, c: CornerKey, plug: u32) -> B
     let at_a = turns::positive_area(plug, b.key, c.key);
     let at_b = turns::positive_area(plug, c.key, a.key);
     let at_c = turns::positive_area(plug, a.key, b.key);
-    Balance::Reason(entry_of(a, at_a), entry_of(b, at_b), entry_of(c, at_c))
+    Some(Entries {
+        first: entry_of(a, at_a),
+        second: entry_of(b, at_b),
+        third: entry_of(c, at_c),
+    })
 }
 
 // What the cone tells the second driver, if no point is the plug.
-fn balance_by_cone(cone: Cone, plug: u32) -> Balance
+fn balance_by_cone(cone: Cone, plug: u32) -> Option<Entries>
     requires { Key plug × Known (point_of plug) cone }
     ensures exact { result ≡ balance_of_cone plug cone }
     ensures balances { BalanceByCone (point_of plug) cone result }
 {
     match cone {
-        Cone::Nothing => Balance::Separated,
-        Cone::Ray(_) => Balance::Separated,
+        Cone::Nothing => None,
+        Cone::Ray(_) => None,
         Cone::Line(a, b) => balance_between(a, b, plug),
-        Cone::Wedge(_, _) => Balance::Separated,
+        Cone::Wedge(_, _) => None,
         Cone::Half(a, b) => balance_between(a, b, plug),
         Cone::Around(a, b, c) => balance_in_triangle(a, b, c, plug),
     }
 }
 
 // What the view tells the second driver.
-fn balance_by(view: View, plug: u32) -> Balance
+fn balance_by(view: View, plug: u32) -> Option<Entries>
     requires { Key plug × Known (point_of plug) view.cone }
     ensures exact { result ≡ balance_of_view plug view }
     ensures balances { BalanceBy (point_of plug) view result }
 {
-    let cone = view.cone;
-    let met = view.met;
-    if let Met::At(v) = met {
-        return Balance::Reason(entry_of(v, 1), entry_of(v, 0), entry_of(v, 0));
+    if let Some(v) = view.met {
+        return Some(Entries {
+            first: entry_of(v, 1),
+            second: entry_of(v, 0),
+            third: entry_of(v, 0),
+        });
     }
-    balance_by_cone(cone, plug)
+    balance_by_cone(view.cone, plug)
 }
 
 // What all corners of the boxes tell the second driver, where the south-west corners' view is known.
-pub fn balance_of(boxes: &[i32], plug: u32, view: View) -> Balance
-    requires box_list { BoxList boxes.now × Key plug }
-    requires corner_view_says { CornerViewSays (boxes_of boxes.now) Corner.SouthWest (point_of plug) view }
-    ensures exact { result ≡ balance_of plug (boxes_of boxes.now) view }
-    ensures balances { BalanceSays (boxes_of boxes.now) (point_of plug) result }
+pub fn balance_of(boxes: Boxes, plug: u32, view: View) -> Option<Entries>
+    requires key { Key plug }
+    requires corner_view_says { CornerViewSays (boxes_of boxes.numbers.now) Corner.SouthWest (point_of plug) view }
+    ensures exact { result ≡ balance_of plug (boxes_of boxes.entry.numbers.now) view }
+    ensures balances { BalanceSays (boxes_of boxes.entry.numbers.now) (point_of plug) result }
 {
     let sw = balance_by(view, plug);
-    if let Balance::Reason(a, b, c) = sw {
-        return Balance::Reason(a, b, c);
+    if let Some(entries) = sw {
+        return Some(entries);
     }
     let all = views::look_over(boxes, CornerSet::Four, plug, view);
     balance_by(all, plug)

@@ -1,16 +1,17 @@
 -- `balances::balance_by_cone` meets its contract: the cone is the case that is matched. Assumes nothing.
+use Rattle.std.specs.Prelude.{Option}
 use mathlib.Core.Path.{◌≡◌, refl, sym, ◌∙◌, ap, subst}
 use Prim.Native.Nat.{ℕ}
 use Rattle.turns.specs.Keys.{point_of}
 use Rattle.cones.specs.Cones.{Known}
 use Rattle.cones.specs.declared.Cone.{Cone}
 use Rattle.balances.specs.Balancing.{balance_of_cone}
-use Rattle.balances.specs.declared.Balance.{Balance}
+use Rattle.balances.specs.declared.Entries.{Entries}
 use Rattle.balances.proofs.Answering.{line_between, half_between, around_triangle, cone_says}
 use Rattle.balances.proofs.balance_by_cone.Goals as goal
 
 -- what is found of the case is found of the cone
-same : (plug : ℕ) {cone case : Cone} {r : Balance} → cone ≡ case → r ≡ balance_of_cone plug case → r ≡ balance_of_cone plug cone
+same : (plug : ℕ) {cone case : Cone} {r : Option Entries} → cone ≡ case → r ≡ balance_of_cone plug case → r ≡ balance_of_cone plug cone
 same plug e f = f ∙ ap (balance_of_cone plug) (sym e)
 
 pub balance_between-requires : goal.balance_between-requires
