@@ -3,37 +3,35 @@
 #![tactic(auto)]
 
 ghost use Rattle.turns.specs.Keys.{Key, point_of};
-ghost use Rattle.rounds.specs.Boxes.{BoxList, boxes_of};
+ghost use Rattle.rounds.specs.Boxes.{boxes_of};
 ghost use Rattle.cones.specs.Wider.{Keyed};
 ghost use Rattle.separating_lines.specs.Separating.{SeparatedIf};
 
+use boxes::Boxes;
 use cones::Cone;
 
 // Whether the line through the plug in the direction from a to b has every corner of every box strictly right of it. Of
 // each box, the corner furthest left tells.
-fn is_left_of_all(boxes: &[i32], a: u32, b: u32, plug: u32) -> bool
-    requires { BoxList boxes.now × Key a × Key b × Key plug }
-    ensures { SeparatedIf (boxes_of boxes.now) (point_of plug) result }
+fn is_left_of_all(boxes: Boxes, a: u32, b: u32, plug: u32) -> bool
+    requires { Key a × Key b × Key plug }
+    ensures { SeparatedIf (boxes_of boxes.entry.numbers.now) (point_of plug) result }
 {
     let line = lines::line_through(a, b);
     let limit = lines::side_of(line, plug);
     let corner = corners::rightmost_corner(b, a);
-    let count = boxes.len() / 4;
-    let mut k: usize = 0;
-    while k < count {
+    for k in 0..boxes.len() {
         let key = corners::corner_key(boxes, k, corner);
         if limit <= lines::side_of(line, key) {
             return false;
         }
-        k += 1;
     }
     true
 }
 
 // Whether the line through the plug in the direction of the chord of a wedge separates it from all boxes.
-pub fn is_separated(boxes: &[i32], cone: Cone, plug: u32) -> bool
-    requires { BoxList boxes.now × Keyed cone × Key plug }
-    ensures { SeparatedIf (boxes_of boxes.now) (point_of plug) result }
+pub fn is_separated(boxes: Boxes, cone: Cone, plug: u32) -> bool
+    requires { Keyed cone × Key plug }
+    ensures { SeparatedIf (boxes_of boxes.entry.numbers.now) (point_of plug) result }
 {
     let Cone::Wedge(a, b) = cone else {
         return false;

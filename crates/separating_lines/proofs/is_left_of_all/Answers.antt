@@ -16,11 +16,9 @@ use Rattle.turns.specs.Keys.{point_of}
 use Rattle.turns.proofs.Bounds.{returned}
 use Rattle.rounds.specs.Boxes.{boxes_of}
 use Rattle.rounds.specs.declared.Corner.{Corner}
-use Rattle.lines.specs.Lines.{Drawn}
 use Rattle.corners.specs.Corners.{nth_corner}
 use Rattle.separating_lines.proofs.Separating.{all_behind}
 use Rattle.separating_lines.proofs.is_left_of_all.Goals as goal
-use Rattle.separating_lines.proofs.is_left_of_all.Goals.{After-line_through-line}
 use Rattle.separating_lines.proofs.is_left_of_all.Invariants.{Beyond}
 
 more : {l : List ℤ} {f t p : Point} {corner : Corner} {k : ℕ} → k < length l / 4 → Beyond l f t p corner k
@@ -31,36 +29,26 @@ more {l} {f} {t} {p} {corner} {k} h b s = record { within = omega arith; right =
     go i o (yes j) = b.right i j
     go i o (no j) = let e : i ≡ k = omega arith in rw e s
 
--- the line
-drawn : (c : After-line_through-line) → Drawn c.line_through-line.result
-drawn c = record { from = _; to = _; key_from = c.requires.1; key_to = c.requires.2; line = c.line_through-line.ensures }
-
 pub line_through-line-requires : goal.line_through-line-requires
-line_through-line-requires c = (c.requires.1, c.requires.2)
+line_through-line-requires c = (c.requires.0, c.requires.1)
 
 pub side_of-limit-requires : goal.side_of-limit-requires
-side_of-limit-requires c = (drawn c, c.requires.3)
+side_of-limit-requires c = (record { from = _; to = _; key_from = c.requires.0; key_to = c.requires.1; line = c.line_through-line.ensures }, c.requires.2)
 
 pub rightmost_corner-corner-requires : goal.rightmost_corner-corner-requires
-rightmost_corner-corner-requires c = (c.requires.2, c.requires.1)
+rightmost_corner-corner-requires c = (c.requires.1, c.requires.0)
 
 pub loop-k-init : goal.loop-k-init
 loop-k-init c = record { within = omega arith; right = λ i h. absurd (omega arith) }
 
 pub corner_key-key-requires : goal.corner_key-key-requires
-corner_key-key-requires c = (c.requires.0, omega arith)
+corner_key-key-requires c = omega arith
 
 pub side_of-requires : goal.side_of-requires
-side_of-requires c = (drawn c.before.before.before.before.before, c.corner_key-key.ensures.key)
+side_of-requires c = (record { from = _; to = _; key_from = c.requires.0; key_to = c.requires.1; line = c.line_through-line.ensures }, c.corner_key-key.ensures.key)
 
 pub returns-then-limit-side_of : goal.returns-then-limit-side_of
 returns-then-limit-side_of c = record { separated = λ e. absurd (true≢false (sym e)) }
-
-pub overflow_add-k : goal.overflow_add-k
-overflow_add-k c = omega arith
-
-pub loop-k-smaller : goal.loop-k-smaller
-loop-k-smaller c = omega arith
 
 pub loop-k-preserved : goal.loop-k-preserved
 loop-k-preserved c =
@@ -74,6 +62,6 @@ loop-k-preserved c =
 pub returns : goal.returns
 returns c =
     record {
-      separated = λ e. all_behind c.args.boxes.now c.requires.0 (point_of c.args.a) (point_of c.args.b) (point_of c.args.plug) c.rightmost_corner-corner.result
+      separated = λ e. all_behind c.args.boxes.numbers.now c.args.boxes.accepted (point_of c.args.a) (point_of c.args.b) (point_of c.args.plug) c.rightmost_corner-corner.result
           c.rightmost_corner-corner.ensures (λ k h. c.loop-k.invariant.right k (omega (arith, c.loop-k.invariant.within)));
     }

@@ -1,6 +1,6 @@
 -- `separating_lines::is_left_of_all` meets its contract. The invariant: the corner of each of the first k boxes is right of the line through the plug. Assumes nothing.
 use mathlib.Core.List.{List}
-use Prim.Native.Nat.{ℕ, ◌/◌, ◌-◌, ◌≤◌, ◌<◌}
+use Prim.Native.Nat.{ℕ, ◌/◌, ◌≤◌, ◌<◌}
 use lib.IntN.{ℤ}
 use lib.Signed.{◌<ℤ◌}
 use lib.ListN.{length}
@@ -17,7 +17,4 @@ pub record Beyond (l : List ℤ) (f t p : Point) (corner : Corner) (k : ℕ) : T
   pub right : (i : ℕ) → i < k → signed_area f t (nth_corner corner (boxes_of l) i) <ℤ signed_area f t p
 
 abbrev pub invariant-loop-k : goal.invariant-loop-k
-invariant-loop-k l = Beyond l.boxes (point_of l.a) (point_of l.b) (point_of l.plug) l.corner l.k
-
-abbrev pub decreases-loop-k : goal.decreases-loop-k
-decreases-loop-k l = length l.boxes / 4 - l.k
+invariant-loop-k l = Beyond l.boxes.numbers.now (point_of l.a) (point_of l.b) (point_of l.plug) l.corner l.k

@@ -11,5 +11,5 @@ returns-in_default c = record { separated = λ e. absurd (true≢false (sym e)) 
 
 pub is_left_of_all-requires : goal.is_left_of_all-requires
 is_left_of_all-requires c =
-    let k : Keyed (Wedge c.in-Wedge.a c.in-Wedge.b) = subst Keyed c.in-Wedge.is c.requires.1 in
-    (c.requires.0, first k, first (rest k), c.requires.2)
+    let k : Keyed (Wedge c.in-Wedge.a c.in-Wedge.b) = subst Keyed c.in-Wedge.is c.requires.0 in
+    (first k, first (rest k), c.requires.1)
