@@ -1,10 +1,10 @@
 -- From what the corners tell each driver to the verdict on a plug: the word is the only one, and what is given means what it says. Assumes nothing.
 use mathlib.Core.Path.{◌≡◌, refl, sym, ◌∙◌, ap, subst}
+use Rattle.std.specs.Prelude.{Option, Some, None, Result, Ok, Err}
 use mathlib.Core.List.{List, [], ◌∷◌, map}
 use Prim.Native.Nat.{ℕ}
 use native.Mathlib.Omega.{arith}
 use lib.IntN.{ℤ}
-use Rattle.plane.specs.Points.{point}
 use Rattle.plane.specs.declared.Point.{Point}
 use Rattle.plane.specs.Members.{All}
 use Rattle.plane.specs.Vectors.{from, Separated}
@@ -17,6 +17,7 @@ use Rattle.rounds.specs.Refusals.{Fault, fault, refusal_fault, box_list_fault, p
 use Rattle.rounds.specs.Replies.{result, refusal_reply, reply_under}
 use Rattle.rounds.specs.Words.{Means, word_of}
 use Rattle.rounds.specs.declared.Corner.TheVariants.{SouthWest}
+use Rattle.rounds.specs.declared.Direction.{Direction}
 use Rattle.rounds.specs.declared.Word.{Word}
 use Rattle.rounds.specs.declared.Word.TheVariants.{Inside, Outside, Undecided}
 use Rattle.rounds.specs.declared.Reasons.{Reasons}
@@ -29,22 +30,15 @@ use Rattle.views.specs.Looking.{view_of}
 use Rattle.views.proofs.Viewing.{view_says}
 use Rattle.supports.specs.Supports.{SupportSays}
 use Rattle.supports.specs.Supporting.{support_of}
-use Rattle.supports.specs.declared.Support.{Support}
-use Rattle.supports.specs.declared.Support.TheVariants as Support'
 use Rattle.supports.proofs.Answering.{support_says}
 use Rattle.balances.specs.Balances.{BalanceSays}
 use Rattle.balances.specs.Balancing.{balance_of}
-use Rattle.balances.specs.declared.Balance.{Balance}
-use Rattle.balances.specs.declared.Balance.TheVariants as Balance'
 use Rattle.balances.proofs.Answering.{balance_says}
+use Rattle.balances.specs.declared.Entries.{Entries}
 use Rattle.verdicts.specs.declared.Verdict.{Verdict}
 use Rattle.verdicts.specs.declared.Verdict.TheVariants as Verdict'
 use Rattle.verdicts.specs.Verdicts.{Judged, verdict_on, VerdictIs}
 use Rattle.verdicts.specs.Answers.{verdict_by, verdict_from, verdict_under, verdict_of}
-
--- what is known of the point of the machine's numbers is known of the point itself
-pub moved : (P : Point → Type 0) {e n east north : ℤ} → e ≡ east → n ≡ north → P (point e n) → P (point east north)
-moved P {e = e} {north = north} p q x = subst (λ a. P (point a north)) p (subst (λ b. P (point e b)) q x)
 
 -- boxes and a plug that no cause turns back
 pub verdict_accepted : (l : List ℤ) (p : Point) → verdict_fault l p ≡ Fault.none → (box_list_fault l ≡ Fault.none) × (plug_fault 1 p ≡ Fault.none)
@@ -54,7 +48,7 @@ verdict_accepted l p e = or_else_none (box_list_fault l) (plug_fault 1 p) e
 result_inj : {v w : Word} → result v ≡ result w → v ≡ w
 result_inj e = cc
 
-undecided_inj : {r s : Reasons} → Verdict'.Undecided r ≡ Verdict'.Undecided s → r ≡ s
+undecided_inj : {r s : Reasons} → ◌≡◌ {A = Result Verdict Refusal} (Ok (Verdict'.Undecided r)) (Ok (Verdict'.Undecided s)) → r ≡ s
 undecided_inj e = cc
 
 -- reasons that hold show that the plug is undecided
@@ -67,7 +61,7 @@ refused_reply : (l : List ℤ) (p : Point) (r : Refusal) → verdict_fault l p �
 refused_reply l p r e = sym (ap (λ f. reply_under f (word_of (boxes_of l) p)) e)
 
 -- what is judged of accepted boxes and a plug is the verdict
-judged_is : (l : List ℤ) (p : Point) (v : Verdict) → verdict_fault l p ≡ Fault.none → Judged (boxes_of l) p v → VerdictIs l p v
+judged_is : (l : List ℤ) (p : Point) (v : Verdict) → verdict_fault l p ≡ Fault.none → Judged (boxes_of l) p v → VerdictIs l p (Ok v)
 judged_is l p v e = go v
   where
     os : All Ordered (boxes_of l)
@@ -77,20 +71,19 @@ judged_is l p v e = go v
     told : (w : Word) → Means (boxes_of l) p w → result w ≡ verdict_on l p
     told w m = ap result ((exactly (boxes_of l) p os w).0 m) ∙ sym (ap (λ f. reply_under f (word_of (boxes_of l) p)) e)
 
-    go : (v : Verdict) → Judged (boxes_of l) p v → VerdictIs l p v
+    go : (v : Verdict) → Judged (boxes_of l) p v → VerdictIs l p (Ok v)
     go Verdict'.Inside h = record { reply = told Inside h; reasons = λ r i. absurd (let z : ◌≡◌ {A = ℕ} 0 1 = cc in omega arith) }
     go Verdict'.Outside h = record { reply = told Outside h; reasons = λ r i. absurd (let z : ◌≡◌ {A = ℕ} 0 1 = cc in omega arith) }
     go (Verdict'.Undecided s) h =
         record { reply = told Undecided (reasoned_means (boxes_of l) p s os h); reasons = λ r i. subst (Reasoned (boxes_of l) p) (undecided_inj i) h }
-    go (Verdict'.Refused s) h = absurd h
 
 -- ---- the verdict that is given
 
 -- what the drivers are told decides
-by_drivers : (bs : List Box) (p : Point) (b : Balance) (s : Support) → BalanceSays bs p b → SupportSays bs p s → Judged bs p (verdict_by b s)
-by_drivers bs p Balance'.Separated s h g = outside_by_corners p h
-by_drivers bs p (Balance'.Reason u v w) Support'.Surrounded h g = inside_by_corners p g
-by_drivers bs p (Balance'.Reason u v w) (Support'.Reason d) h g = record { first_driver = g; second_driver = h }
+by_drivers : (bs : List Box) (p : Point) (b : Option Entries) (s : Option Direction) → BalanceSays bs p b → SupportSays bs p s → Judged bs p (verdict_by b s)
+by_drivers bs p None s h g = outside_by_corners p h
+by_drivers bs p (Some e) None h g = inside_by_corners p g
+by_drivers bs p (Some e) (Some d) h g = record { first_driver = g; second_driver = h }
 
 judged_from : (k : ℕ) → Key k → (bs : List Box) → All BoxInSpan bs → Judged bs (point_of k) (verdict_from k bs (view_of k SouthWest bs))
 judged_from k hk bs h =
@@ -113,7 +106,6 @@ outside_from k hk bs h os s = go (verdict_from k bs (view_of k SouthWest bs)) (j
     go Verdict'.Inside m = absurd (let e = is_outside Inside m in let z : ◌≡◌ {A = ℕ} 0 1 = cc in omega arith)
     go Verdict'.Outside m = refl
     go (Verdict'.Undecided r) m = absurd (let e = is_outside Undecided (reasoned_means bs (point_of k) r os m) in let z : ◌≡◌ {A = ℕ} 0 1 = cc in omega arith)
-    go (Verdict'.Refused r) m = absurd m
 
 -- of boxes and a plug that no cause turns back
 abbrev found : List ℤ → Point → Verdict
@@ -132,15 +124,15 @@ verdict_of_is l p = go (verdict_fault l p) refl
     go (fault c k) e = record { reply = refused_reply l p (record { cause = c; place = k }) e; reasons = λ r i. absurd (let z : ◌≡◌ {A = ℕ} 0 1 = cc in omega arith) }
 
 -- an answer that is the one given
-pub given_is : {l : List ℤ} {p : Point} {v : Verdict} → v ≡ verdict_of l p → VerdictIs l p v × (v ≡ verdict_of l p)
+pub given_is : {l : List ℤ} {p : Point} {v : Result Verdict Refusal} → v ≡ verdict_of l p → VerdictIs l p v × (v ≡ verdict_of l p)
 given_is {l} {p} e = (subst (VerdictIs l p) (sym e) (verdict_of_is l p), e)
 
 -- a refusal by the fault
-pub refused_given : (l : List ℤ) (p : Point) (r : Refusal) → verdict_fault l p ≡ refusal_fault r → Verdict'.Refused r ≡ verdict_of l p
+pub refused_given : (l : List ℤ) (p : Point) (r : Refusal) → verdict_fault l p ≡ refusal_fault r → Err r ≡ verdict_of l p
 unfolding verdict_of
 refused_given l p r e = sym (ap (λ f. verdict_under f (found l p)) e)
 
 -- and else by the drivers, with the key of the plug
-pub judged_given : (l : List ℤ) (p : Point) (k : ℕ) → k ≡ key_at p → verdict_fault l p ≡ Fault.none → verdict_from k (boxes_of l) (view_of k SouthWest (boxes_of l)) ≡ verdict_of l p
+pub judged_given : (l : List ℤ) (p : Point) (k : ℕ) → k ≡ key_at p → verdict_fault l p ≡ Fault.none → Ok (verdict_from k (boxes_of l) (view_of k SouthWest (boxes_of l))) ≡ verdict_of l p
 unfolding verdict_of
-judged_given l p k i e = ap (λ k. verdict_from k (boxes_of l) (view_of k SouthWest (boxes_of l))) i ∙ sym (ap (λ f. verdict_under f (found l p)) e)
+judged_given l p k i e = ap (λ k. Ok (verdict_from k (boxes_of l) (view_of k SouthWest (boxes_of l)))) i ∙ sym (ap (λ f. verdict_under f (found l p)) e)

@@ -26,36 +26,36 @@ given plug bs e = ap (verdict_from plug bs) e
 
 pub is_separated-requires : goal.is_separated-requires
 is_separated-requires c =
-    let bs = boxes_of c.args.boxes.now in
-    (c.requires.0, says_keyed bs (corners_of SouthWest bs) (point_of c.args.plug) c.view_of-view.result.cone (says c.args.plug bs c.requires.0.in_span c.view_of-view.ensures.exact).of_cone, c.requires.1)
+    let bs = boxes_of c.args.boxes.numbers.now in
+    (says_keyed bs (corners_of SouthWest bs) (point_of c.args.plug) c.view_of-view.result.cone (says c.args.plug bs c.args.boxes.accepted.in_span c.view_of-view.ensures.exact).of_cone, c.requires)
 
 pub returns-then-is_separated : goal.returns-then-is_separated
 returns-then-is_separated c =
-    let e = outside_from c.args.plug c.requires.1 (boxes_of c.args.boxes.now) c.requires.0.in_span c.requires.0.ordered (c.is_separated.ensures.separated c.if-is_separated.true) in
-    record { exact = e; judged = judged_found c.args.plug c.requires.1 (boxes_of c.args.boxes.now) c.requires.0.in_span e }
+    let e = outside_from c.args.plug c.requires (boxes_of c.args.boxes.numbers.now) c.args.boxes.accepted.in_span c.args.boxes.accepted.ordered (c.is_separated.ensures.separated c.if-is_separated.true) in
+    record { exact = e; judged = judged_found c.args.plug c.requires (boxes_of c.args.boxes.numbers.now) c.args.boxes.accepted.in_span e }
 
-pub balance_of-balance-requires : goal.balance_of-balance-requires
-balance_of-balance-requires c =
-    record { box_list = c.requires; corner_view_says = says c.args.plug (boxes_of c.args.boxes.now) c.requires.0.in_span c.view_of-view.ensures.exact }
+pub balance_of-requires : goal.balance_of-requires
+balance_of-requires c =
+    record { key = c.requires; corner_view_says = says c.args.plug (boxes_of c.args.boxes.numbers.now) c.args.boxes.accepted.in_span c.view_of-view.ensures.exact }
 
 pub returns-in_default : goal.returns-in_default
 returns-in_default c =
-    let bs = boxes_of c.args.boxes.now in
+    let bs = boxes_of c.args.boxes.numbers.now in
     let e =
-    ap (λ b. verdict_by b (support_of c.args.plug bs c.view_of-view.result)) (sym c.in_default.is ∙ c.balance_of-balance.ensures.exact)
+    ap (λ b. verdict_by b (support_of c.args.plug bs c.view_of-view.result)) (sym c.in_default.is ∙ c.balance_of.ensures.exact)
     ∙ given c.args.plug bs c.view_of-view.ensures.exact in
-    record { exact = e; judged = judged_found c.args.plug c.requires.1 (boxes_of c.args.boxes.now) c.requires.0.in_span e }
+    record { exact = e; judged = judged_found c.args.plug c.requires (boxes_of c.args.boxes.numbers.now) c.args.boxes.accepted.in_span e }
 
-pub support_of-support-requires : goal.support_of-support-requires
-support_of-support-requires c =
-    record { box_list = c.requires; corner_view_says = says c.args.plug (boxes_of c.args.boxes.now) c.requires.0.in_span c.view_of-view.ensures.exact }
+pub support_of-requires : goal.support_of-requires
+support_of-requires c =
+    record { key = c.requires; corner_view_says = says c.args.plug (boxes_of c.args.boxes.numbers.now) c.args.boxes.accepted.in_span c.view_of-view.ensures.exact }
 
-pub returns-in_default-support : goal.returns-in_default-support
-returns-in_default-support c =
-    let e = ap₂ verdict_by (sym c.in-Reason.is ∙ c.balance_of-balance.ensures.exact) (sym c.in_default-support.is ∙ c.support_of-support.ensures.exact) ∙ given c.args.plug (boxes_of c.args.boxes.now) c.view_of-view.ensures.exact in
-    record { exact = e; judged = judged_found c.args.plug c.requires.1 (boxes_of c.args.boxes.now) c.requires.0.in_span e }
+pub returns-in_default-support_of : goal.returns-in_default-support_of
+returns-in_default-support_of c =
+    let e = ap₂ verdict_by (sym c.in-Some.is ∙ c.balance_of.ensures.exact) (sym c.in_default-support_of.is ∙ c.support_of.ensures.exact) ∙ given c.args.plug (boxes_of c.args.boxes.numbers.now) c.view_of-view.ensures.exact in
+    record { exact = e; judged = judged_found c.args.plug c.requires (boxes_of c.args.boxes.numbers.now) c.args.boxes.accepted.in_span e }
 
 pub returns : goal.returns
 returns c =
-    let e = ap₂ verdict_by (sym c.in-Reason.is ∙ c.balance_of-balance.ensures.exact) (sym c.in-Reason-support.is ∙ c.support_of-support.ensures.exact) ∙ given c.args.plug (boxes_of c.args.boxes.now) c.view_of-view.ensures.exact in
-    record { exact = e; judged = judged_found c.args.plug c.requires.1 (boxes_of c.args.boxes.now) c.requires.0.in_span e }
+    let e = ap₂ verdict_by (sym c.in-Some.is ∙ c.balance_of.ensures.exact) (sym c.in-Some-support_of.is ∙ c.support_of.ensures.exact) ∙ given c.args.plug (boxes_of c.args.boxes.numbers.now) c.view_of-view.ensures.exact in
+    record { exact = e; judged = judged_found c.args.plug c.requires (boxes_of c.args.boxes.numbers.now) c.args.boxes.accepted.in_span e }

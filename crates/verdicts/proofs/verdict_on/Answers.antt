@@ -1,41 +1,24 @@
 -- `verdicts::verdict_on` meets its contract: a refusal is the reply, and else what is judged (proofs/Answering.antt). Assumes nothing.
-use mathlib.Core.Path.{◌≡◌, sym, ◌∙◌, ap}
-use mathlib.Core.List.{List}
-use lib.IntN.{ℤ}
-use mir.Syntax.{w32}
-use mir.ValLaws.{to_z-of_z}
-use Rattle.plane.specs.Points.{point}
-use Rattle.turns.specs.Keys.{key_at}
+use mathlib.Core.Path.{sym, ◌∙◌, ap}
+use Rattle.std.specs.Prelude.{Ok}
+use Rattle.rounds.specs.Boxes.{boxes_of}
+use Rattle.rounds.specs.declared.Corner.TheVariants.{SouthWest}
+use Rattle.rounds.proofs.Accepted.{plug_accepted}
+use Rattle.rounds.proofs.Exits.{passed_on}
 use Rattle.turns.proofs.Coordinates.{one_key}
-use Rattle.rounds.specs.Refusals.{Fault, fault_of, verdict_fault}
-use Rattle.rounds.proofs.Accepted.{accepted, plug_accepted}
-use Rattle.verdicts.proofs.Answering.{moved, verdict_accepted, given_is, refused_given, judged_given}
+use Rattle.views.specs.Looking.{view_of}
+use Rattle.verdicts.specs.Answers.{verdict_from}
+use Rattle.verdicts.proofs.Answering.{verdict_accepted, given_is, refused_given, judged_given}
 use Rattle.verdicts.proofs.verdict_on.Goals as goal
 
--- what the check found of the point of the machine's numbers is the fault of the point itself
-fault_is : (l : List ℤ) {e n east north : ℤ} {f : Fault} → e ≡ east → n ≡ north → f ≡ verdict_fault l (point e n) → verdict_fault l (point east north) ≡ f
-fault_is l {f = f} p q x = sym (moved (λ a. f ≡ verdict_fault l a) p q x)
+pub key_of-requires : goal.key_of-requires
+key_of-requires c = plug_accepted 1 c.args.plug (verdict_accepted c.args.numbers.now c.args.plug (sym c.in_ok-boxes.ensures.fault)).1
 
-pub returns-in-Refused : goal.returns-in-Refused
-returns-in-Refused c =
-    given_is (refused_given _ _ _
-    (fault_is c.args.boxes.now (to_z-of_z w32 _ c.ranges.east) (to_z-of_z w32 _ c.ranges.north) c.check_verdict-checked.ensures ∙ ap fault_of c.in-Refused.is))
-
-pub key_of-plug-requires : goal.key_of-plug-requires
-key_of-plug-requires c =
-    let a : verdict_fault c.args.boxes.now (point c.args.east c.args.north) ≡ Fault.none =
-    fault_is c.args.boxes.now (to_z-of_z w32 _ c.ranges.east) (to_z-of_z w32 _ c.ranges.north) c.check_verdict-checked.ensures ∙ ap fault_of c.in_default.is in
-    rw (to_z-of_z w32 _ c.ranges.east, to_z-of_z w32 _ c.ranges.north) (plug_accepted 1 (point c.args.east c.args.north) (verdict_accepted c.args.boxes.now (point c.args.east c.args.north) a).1)
-
-pub judge-requires : goal.judge-requires
-judge-requires c =
-    let a : verdict_fault c.args.boxes.now (point c.args.east c.args.north) ≡ Fault.none =
-    fault_is c.args.boxes.now (to_z-of_z w32 _ c.ranges.east) (to_z-of_z w32 _ c.ranges.north) c.check_verdict-checked.ensures ∙ ap fault_of c.in_default.is in
-    (accepted _ (verdict_accepted c.args.boxes.now (point c.args.east c.args.north) a).0, c.key_of-plug.ensures.key)
+pub returns-in_err-boxes : goal.returns-in_err-boxes
+returns-in_err-boxes c = given_is (passed_on c.from_residual.result c.from_residual.ensures.1 ∙ refused_given _ _ _ (sym c.in_err-boxes.ensures.fault))
 
 pub returns : goal.returns
 returns c =
-    let a : verdict_fault c.args.boxes.now (point c.args.east c.args.north) ≡ Fault.none =
-    fault_is c.args.boxes.now (to_z-of_z w32 _ c.ranges.east) (to_z-of_z w32 _ c.ranges.north) c.check_verdict-checked.ensures ∙ ap fault_of c.in_default.is in
-    let k = moved (λ p. c.key_of-plug.result ≡ key_at p) (to_z-of_z w32 _ c.ranges.east) (to_z-of_z w32 _ c.ranges.north) (one_key c.key_of-plug.ensures) in
-    given_is (c.judge.ensures.exact ∙ judged_given c.args.boxes.now (point c.args.east c.args.north) c.key_of-plug.result k a)
+    given_is
+    (ap Ok (c.judge.ensures.exact ∙ ap (λ l. verdict_from c.key_of.result (boxes_of l) (view_of c.key_of.result SouthWest (boxes_of l))) c.in_ok-boxes.ensures.same)
+    ∙ judged_given c.args.numbers.now c.args.plug c.key_of.result (one_key c.key_of.ensures) (sym c.in_ok-boxes.ensures.fault))
