@@ -13,16 +13,14 @@ fn pop(stack: &[u32], k: usize, r: u32) -> usize
     requires all_keys { AllKeys (get stack.now) k × Key r }
     ensures { Popped (get stack.now) k r result }
 {
-    let mut n = k;
-    while 2 <= n {
-        let a = stack[n - 2];
-        let b = stack[n - 1];
+    for n in (1..k).rev() {
+        let a = stack[n - 1];
+        let b = stack[n];
         if turns::turns_right(a, b, r) {
-            return n;
+            return n + 1;
         }
-        n -= 1;
     }
-    n
+    1
 }
 
 // The upper chain of first, keys in order, and last: its vertices, in order, are the first of stack. All keys are
@@ -37,13 +35,10 @@ pub fn upper_chain(first: u32, keys: &[u32], last: u32, stack: &mut [u32]) -> us
 {
     stack[0] = first;
     let mut k: usize = 1;
-    let mut m: usize = 0;
-    while m < keys.len() {
-        let r = keys[m];
+    for &r in keys {
         let n = pop(stack, k, r);
         stack[n] = r;
         k = n + 1;
-        m += 1;
     }
     let n = pop(stack, k, last);
     stack[n] = last;

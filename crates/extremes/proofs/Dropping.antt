@@ -1,21 +1,35 @@
 -- Dropping keys that are in a rectangle (specs/Inner): what is known after some keys are passed (`Keeping`), that one more keeps it, and that each key that is
 -- dropped has kept keys in all four quadrants round it. Assumes nothing.
-use Rattle.std.proofs.Common.{◌≡◌, ℕ, ◌+◌, ◌-◌, ◌%◌, ◌^◌, ◌<◌, ◌≤◌, Bool, true, false, ◌&&◌, ◌⊎◌, List, length, take, set, sym, refl, ◌∙◌, subst, inl, inr, ⊎_elim, arith, length-set, length-take-le, get_or-set_other, get_or-take, get_or-set_same}
+use Rattle.std.proofs.Common.{◌≡◌, ℕ, ◌+◌, ◌<◌, ◌≤◌, Bool, true, false, ◌⊎◌, List, length, take, set, min, max}
+use Rattle.std.proofs.Common.{sym, refl, ◌∙◌, subst, inl, inr, ⊎_elim, arith, length-set, length-take-le, get_or-set_other, get_or-take, get_or-set_same}
+use Rattle.std.specs.Int.{from_bool}
 use native.Mathlib.Decide.{dec_lt}
 use Rattle.orders.specs.Order.{get, EachAmong}
 use Rattle.turns.specs.Keys.{east_part, north_part, AllKeys}
-use Rattle.turns.specs.Sums.{Encoded, Decoded}
-use Rattle.extremes.specs.Inner.{Among, FarKeys, Bounds, InRectangle, Inner, Kept, Outer}
+use Rattle.extremes.specs.Inner.{Among, Lesser, Greater, FarKeys, Bounds, InRectangle, Inner, Kept, Outer}
+
+-- ---- the least and the greatest of two numbers
+
+pub lesser : {a b r : ℕ} → r ≡ min a b → Lesser a b r
+lesser {a} {b} {r} e = record { first = omega arith; second = omega arith; either = go (dec_lt a b) }
+  where
+    go : Dec (a < b) → (r ≡ a) ⊎ (r ≡ b)
+    go (yes h) = inl (omega arith)
+    go (no h) = inr (omega arith)
+
+pub greater : {a b r : ℕ} → r ≡ max a b → Greater a b r
+greater {a} {b} {r} e = record { first = omega arith; second = omega arith; either = go (dec_lt a b) }
+  where
+    go : Dec (a < b) → (r ≡ a) ⊎ (r ≡ b)
+    go (yes h) = inr (omega arith)
+    go (no h) = inl (omega arith)
 
 -- ---- the tests
 
--- r, to which low is added, wraps to x, and is less than the gap from low to high
-pub wrapped : (x low high r g : ℕ) → high < 2 ^ 32 → (r + low) % 2 ^ 32 ≡ x → g ≡ high - low → r < g → (low ≤ x) × (x < high)
-wrapped x low high r g l e f h = (omega arith, omega arith)
-
-pub both : (a b : Bool) → a && b ≡ true → (a ≡ true) × (b ≡ true)
-both true b e = (refl, e)
-both false b e = absurd (let z : ◌≡◌ {A = ℕ} 0 1 = cc in omega arith)
+-- what is counted of a key by a test that fails where it has property P
+pub counted : (b : Bool) {d : ℕ} {P : Type 0} → d ≡ from_bool b → (b ≡ false → P) → (d ≡ 1) ⊎ ((d ≡ 0) × P)
+counted true e f = inl e
+counted false e f = inr (e, f refl)
 
 -- ---- moving keys to the front
 
@@ -27,17 +41,6 @@ pub record Keeping (old new : List ℕ) (i n : ℕ) (P : ℕ → Type 0) : Type 
   pub unread : (j : ℕ) → i ≤ j → get new j ≡ get old j
   pub kept : EachAmong (get new) n (get old) (length old)
   pub rest : (j : ℕ) → j < i → Among (get new) n (get old j) ⊎ P (get old j)
-
-pub start : (old : List ℕ) (P : ℕ → Type 0) → Keeping old old 0 0 P
-start old P =
-    record {
-      most = omega arith;
-      i_in = omega arith;
-      same_length = refl;
-      unread = λ j h. refl;
-      kept = record { find = λ j h. absurd (omega arith) };
-      rest = λ j h. absurd (omega arith);
-    }
 
 -- the next key is stored after those that are kept, and stays there (d is 1), or has property P (d is 0)
 module _ (old new : List ℕ) (i n d : ℕ) (P : ℕ → Type 0) (h : i < length old) (k : Keeping old new i n P) (c : (d ≡ 1) ⊎ ((d ≡ 0) × P (get new i))) where
@@ -71,21 +74,11 @@ module _ (old new : List ℕ) (i n d : ℕ) (P : ℕ → Type 0) (h : i < length
         rest = λ j l. rest' j l (dec_lt j i);
       }
 
-pub finish : (old new : List ℕ) (i n : ℕ) (P : ℕ → Type 0) → length old ≤ i → Keeping old new i n P → Kept old new n P
-finish old new i n P h k = record { few = omega (arith, k.most, k.i_in); kept = k.kept; rest = λ j l. k.rest j (omega arith) }
-
 -- ---- numbers of four keys of a list
 
 -- one stays, or the number of another key takes its place
 pub taken : (f : ℕ → ℕ) (l : List ℕ) {a b x : ℕ} (i : ℕ) → i < length l → Among (λ j. f (get l j)) (length l) a → x ≡ f (get l i) → (b ≡ a) ⊎ (b ≡ x) → Among (λ j. f (get l j)) (length l) b
 taken f l i h k q e = ⊎_elim (λ z. (k.0, k.1, z ∙ k.2)) (λ z. (i, h, z ∙ q)) e
-
--- the number of a key of a list, and the key of the number
-pub encoded : (f : ℕ → ℕ) (l : List ℕ) {x : ℕ} → AllKeys (get l) (length l) → Among (λ j. f (get l j)) (length l) x → Encoded f x
-encoded f l ks m = (get l m.0, ks.key m.0 m.1, m.2)
-
-pub decoded : (f : ℕ → ℕ) (l : List ℕ) {x r : ℕ} → AllKeys (get l) (length l) → Among (λ j. f (get l j)) (length l) x → Decoded f x r → Among (get l) (length l) r
-decoded f l ks m d = (m.0, m.1, d (get l m.0) (ks.key m.0 m.1) m.2)
 
 -- ---- keys in a rectangle beyond whose corners four keys lie
 

@@ -2,10 +2,10 @@
 // round them, dropped before the rest are sorted.
 #![tactic(auto)]
 
-ghost use Rattle.std.specs.Prelude.{◌≡◌, ◌-◌, ◌<◌, ◌≤◌, true, ◌⊎◌, length};
+ghost use Rattle.std.specs.Prelude.{◌≡◌, ◌<◌, ◌≤◌, true, false, length};
 ghost use Rattle.turns.specs.Keys.{AllKeys};
 ghost use Rattle.orders.specs.Order.{get};
-ghost use Rattle.extremes.specs.Inner.{EndsOf, Lesser, Greater, FarKeys, Bounds, InRectangle, Kept, Outer};
+ghost use Rattle.extremes.specs.Inner.{EndsOf, FarKeys, Bounds, InRectangle, Kept, Outer};
 
 // Fewer keys than these are all kept. At these many, dropping nearly halves the time for points at random and costs
 // hardly any on a circle, as measured.
@@ -19,11 +19,11 @@ const FILLED: usize = 2;
 
 // Four keys, each far out in one of the four directions between east and north.
 #[derive(Clone, Copy)]
-struct Far {
-    ne: u32,
-    nw: u32,
-    sw: u32,
-    se: u32,
+pub struct Far {
+    pub ne: u32,
+    pub nw: u32,
+    pub sw: u32,
+    pub se: u32,
 }
 
 // A rectangle, by the parts of keys: from west to before east, and from south to before north.
@@ -33,26 +33,6 @@ struct Rectangle {
     east: u32,
     south: u32,
     north: u32,
-}
-
-// The lesser of two numbers.
-fn lesser(a: u32, b: u32) -> u32
-    ensures { Lesser a b result }
-{
-    if a < b {
-        return a;
-    }
-    b
-}
-
-// The greater of two numbers.
-fn greater(a: u32, b: u32) -> u32
-    ensures { Greater a b result }
-{
-    if a < b {
-        return b;
-    }
-    a
 }
 
 // The keys that are farthest out: with the greatest and the least sum of coordinates, and the greatest and the least
@@ -66,26 +46,19 @@ fn find_far(keys: &[u32]) -> Far
     let mut nw = turns::difference_of(first);
     let mut sw = ne;
     let mut se = nw;
-    let mut i: usize = 0;
-    while i < keys.len() {
-        let key = keys[i];
+    for &key in keys {
         let sum = turns::sum_of(key);
         let difference = turns::difference_of(key);
-        ne = greater(ne, sum);
-        nw = greater(nw, difference);
-        sw = lesser(sw, sum);
-        se = lesser(se, difference);
-        i += 1;
+        ne = ne.max(sum);
+        nw = nw.max(difference);
+        sw = sw.min(sum);
+        se = se.min(difference);
     }
-    let a = turns::key_of_sum(ne);
-    let b = turns::key_of_difference(nw);
-    let c = turns::key_of_sum(sw);
-    let d = turns::key_of_difference(se);
     Far {
-        ne: a,
-        nw: b,
-        sw: c,
-        se: d,
+        ne: turns::key_of_sum(ne),
+        nw: turns::key_of_difference(nw),
+        sw: turns::key_of_sum(sw),
+        se: turns::key_of_difference(se),
     }
 }
 
@@ -93,45 +66,32 @@ fn find_far(keys: &[u32]) -> Far
 fn between_far(far: Far) -> Rectangle
     ensures { Bounds far.ne far.nw far.sw far.se result.west result.east result.south result.north }
 {
-    let west = greater(turns::east_part(far.nw), turns::east_part(far.sw)) + 1;
-    let east = lesser(turns::east_part(far.ne), turns::east_part(far.se));
-    let south = greater(turns::north_part(far.sw), turns::north_part(far.se)) + 1;
-    let north = lesser(turns::north_part(far.ne), turns::north_part(far.nw));
+    let west = turns::east_part(far.nw).max(turns::east_part(far.sw)) + 1;
+    let east = turns::east_part(far.ne).min(turns::east_part(far.se));
+    let south = turns::north_part(far.sw).max(turns::north_part(far.se)) + 1;
+    let north = turns::north_part(far.ne).min(turns::north_part(far.nw));
     Rectangle {
-        west: west,
-        east: east,
-        south: south,
-        north: north,
+        west,
+        east,
+        south,
+        north,
     }
-}
-
-// How far it is from low to high, 0 if high is not above low.
-fn gap(low: u32, high: u32) -> u32
-    ensures { result ≡ high - low }
-{
-    if low < high {
-        return high - low;
-    }
-    0
 }
 
 // Whether x is from low to before high, in one test: x less low is less than the gap, where what is below low wraps.
 fn is_from(x: u32, low: u32, high: u32) -> bool
     ensures { result ≡ true → (low ≤ x) × (x < high) }
 {
-    std::num::wrapping_sub_u32(x, low) < gap(low, high)
+    x.wrapping_sub(low) < high.saturating_sub(low)
 }
 
-// How many keys to keep of one: 0 if it is in the rectangle, otherwise 1.
-fn keep_count(key: u32, r: Rectangle) -> usize
-    ensures { (result ≡ 1) ⊎ ((result ≡ 0) × InRectangle key r.west r.east r.south r.north) }
+// Whether a key is outside the rectangle; if not, it is in it.
+fn is_outside(key: u32, r: Rectangle) -> bool
+    ensures { result ≡ false → InRectangle key r.west r.east r.south r.north }
 {
     let inside = is_from(turns::east_part(key), r.west, r.east)
         & is_from(turns::north_part(key), r.south, r.north);
-    if inside {
-        return 0;
-    }
-    1
+    !inside
 }
 
 // Moves the keys that are not in the rectangle to the front, and counts them.
@@ -140,12 +100,10 @@ fn keep_outside(keys: &mut [u32], r: Rectangle) -> usize
         (λ k. InRectangle k r.west r.east r.south r.north) }
 {
     let mut n: usize = 0;
-    let mut i: usize = 0;
-    while i < keys.len() {
+    for i in 0..keys.len() {
         let key = keys[i];
         keys[n] = key;
-        n += keep_count(key, r);
-        i += 1;
+        n += usize::from(is_outside(key, r));
     }
     n
 }
@@ -154,13 +112,7 @@ fn keep_outside(keys: &mut [u32], r: Rectangle) -> usize
 fn count_outside(keys: &[u32], r: Rectangle) -> usize
     ensures { result ≤ length keys.now }
 {
-    let mut n: usize = 0;
-    let mut i: usize = 0;
-    while i < keys.len() {
-        n += keep_count(keys[i], r);
-        i += 1;
-    }
-    n
+    keys.iter().filter(|key| is_outside(**key, r)).count()
 }
 
 // Whether a rectangle has room for keys.
@@ -208,15 +160,9 @@ pub fn find_ends(keys: &[u32]) -> Ends
 {
     let mut first = keys[0];
     let mut last = first;
-    let mut i: usize = 0;
-    while i < keys.len() {
-        let key = keys[i];
-        first = lesser(first, key);
-        last = greater(last, key);
-        i += 1;
+    for &key in keys {
+        first = first.min(key);
+        last = last.max(key);
     }
-    Ends {
-        first: first,
-        last: last,
-    }
+    Ends { first, last }
 }

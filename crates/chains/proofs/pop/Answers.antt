@@ -1,7 +1,7 @@
 -- `chains::pop` meets its contract. The invariant: between 1 and k vertices are left, and no side that went turns right to r. Assumes nothing.
 use mathlib.Core.List.{List}
 use mathlib.Core.Path.{◌≡◌}
-use Prim.Native.Nat.{ℕ, suc, ◌-◌, ◌≤◌, ◌<◌}
+use Prim.Native.Nat.{ℕ, suc, ◌+◌, ◌-◌, ◌≤◌, ◌<◌}
 use native.Mathlib.Decide.{dec_lt}
 use native.Mathlib.Omega.{arith}
 use lib.IntN.{pos}
@@ -11,47 +11,27 @@ use Rattle.orders.specs.Order.{get}
 use Rattle.chains.proofs.Turning.{right_if, not_right_if}
 use Rattle.chains.proofs.pop.Goals as goal
 
--- the code reads at n - 2 and n - 1, the specs at j and suc j
-at_top : (s : List ℕ) (r n j : ℕ) → suc (suc j) ≡ n → turn (get s (n - 2)) (get s (n - 1)) r <ℤ pos 0 → turn (get s j) (get s (suc j)) r <ℤ pos 0
-at_top s r n j e h =
-    let a : n - 2 ≡ j = omega arith in
+-- the code reads at n - 1 - 1 and n - 1, the specs at j and suc j
+at_top : (s : List ℕ) (r n j : ℕ) → suc (suc j) ≡ n - 1 + 1 → 1 < n → turn (get s (n - 1 - 1)) (get s (n - 1)) r <ℤ pos 0 → turn (get s j) (get s (suc j)) r <ℤ pos 0
+at_top s r n j e l h =
+    let a : n - 1 - 1 ≡ j = omega arith in
     let b : n - 1 ≡ suc j = omega arith in
     rw (a, b) at h
 
 -- one more side went
 at-gone : (s : List ℕ) (r k n : ℕ) → ((j : ℕ) → n ≤ suc j → suc j < k → pos 0 ≤ℤ turn (get s j) (get s (suc j)) r)
-    → pos 0 ≤ℤ turn (get s (n - 2)) (get s (n - 1)) r → (j : ℕ) → n - 1 ≤ suc j → suc j < k → pos 0 ≤ℤ turn (get s j) (get s (suc j)) r
+    → pos 0 ≤ℤ turn (get s (n - 1 - 1)) (get s (n - 1)) r → (j : ℕ) → n - 1 ≤ suc j → suc j < k → pos 0 ≤ℤ turn (get s j) (get s (suc j)) r
 at-gone s r k n f h j l o = go (dec_lt (suc j) n)
   where
     go : Dec (suc j < n) → pos 0 ≤ℤ turn (get s j) (get s (suc j)) r
     go (yes z) =
-        let a : n - 2 ≡ j = omega arith in
+        let a : n - 1 - 1 ≡ j = omega arith in
         let b : n - 1 ≡ suc j = omega arith in
         rw (a, b) at h
     go (no z) = f j (omega arith) o
 
 pub loop-n-init : goal.loop-n-init
-loop-n-init c = (omega arith, (omega arith, λ j e l. absurd (omega arith)))
-
-pub offset_bounds-stack-n : goal.offset_bounds-stack-n
-offset_bounds-stack-n c = omega arith
-
-pub bounds-stack-n : goal.bounds-stack-n
-bounds-stack-n c = omega arith
-
-pub overflow_sub-b : goal.overflow_sub-b
-overflow_sub-b c = omega arith
-
-pub offset_bounds-stack-n-in-loop-n : goal.offset_bounds-stack-n-in-loop-n
-offset_bounds-stack-n-in-loop-n c = omega arith
-
-pub bounds-stack-n-in-loop-n : goal.bounds-stack-n-in-loop-n
-bounds-stack-n-in-loop-n c = omega arith
-
-pub turns_right-requires : goal.turns_right-requires
-turns_right-requires c =
-    let l = c.loop-n in
-    search (c.requires.all_keys.0.key (l.n - 2) (omega arith), c.requires.all_keys.0.key (l.n - 1) (omega arith), c.requires.all_keys.1)
+loop-n-init c = (omega arith, λ j e l. absurd (omega arith))
 
 pub returns-then-turns_right : goal.returns-then-turns_right
 returns-then-turns_right c =
@@ -60,23 +40,21 @@ returns-then-turns_right c =
     record {
       some = omega arith;
       most = omega arith;
-      bend = λ j e. at_top s.stack.now s.r l.n j e (right_if _ _ _ _ c.turns_right.ensures c.if-turns_right.true);
-      gone = l.invariant.1.1;
+      bend = λ j e. at_top s.stack.now s.r l.n j e (omega arith) (right_if _ _ _ _ c.turns_right.ensures c.if-turns_right.true);
+      gone = λ j e h. l.invariant.1 j (omega arith) h;
     }
-
-pub overflow_sub-n : goal.overflow_sub-n
-overflow_sub-n c = omega arith
-
-pub loop-n-smaller : goal.loop-n-smaller
-loop-n-smaller c = omega arith
 
 pub loop-n-preserved : goal.loop-n-preserved
 loop-n-preserved c =
     let l = c.loop-n in
     let s = c.args in
-    (omega arith, (omega arith, at-gone s.stack.now s.r s.k l.n l.invariant.1.1 (not_right_if _ _ _ _ c.turns_right.ensures c.if-turns_right.false)))
+    (omega arith, at-gone s.stack.now s.r s.k l.n l.invariant.1 (not_right_if _ _ _ _ c.turns_right.ensures c.if-turns_right.false))
 
 pub returns : goal.returns
 returns c =
-    let l = c.loop-n in
-    record { some = omega arith; most = omega arith; bend = λ j e. absurd (omega arith); gone = l.invariant.1.1 }
+    record {
+      some = omega arith;
+      most = omega arith;
+      bend = λ j e. absurd (omega arith);
+      gone = λ j e h. c.loop-n.invariant.1 j (omega arith) h;
+    }

@@ -7,7 +7,4 @@ use Rattle.orders.specs.Order.{get}
 use Rattle.chains.proofs.pop.Given as goal
 
 abbrev pub invariant-loop-n : goal.invariant-loop-n
-invariant-loop-n l = (1 ≤ l.n) × ((l.n ≤ l.k) × ((j : ℕ) → l.n ≤ suc j → suc j < l.k → pos 0 ≤ℤ turn (get l.stack j) (get l.stack (suc j)) l.r))
-
-abbrev pub decreases-loop-n : goal.decreases-loop-n
-decreases-loop-n l = l.n
+invariant-loop-n l = (1 ≤ l.n) × ((j : ℕ) → l.n ≤ suc j → suc j < l.k → pos 0 ≤ℤ turn (get l.stack j) (get l.stack (suc j)) l.r)

@@ -1,6 +1,6 @@
 -- `chains::upper_chain` meets its contract. The invariant: the first k of stack are the chain over the first key and the m next. A turn is `next` of proofs/Chaining.
 -- Assumes nothing.
-use mathlib.Core.Path.{◌≡◌, refl, sym, ap, ◌∙◌, subst}
+use mathlib.Core.Path.{◌≡◌, sym, ap, ◌∙◌, subst}
 use mathlib.Core.List.{List}
 use Prim.Native.Nat.{ℕ, suc, ◌+◌, ◌≤◌, ◌<◌}
 use native.Mathlib.Numerals.{add-one}
@@ -32,83 +32,34 @@ module _ (first : ℕ) (keys : List ℕ) (last : ℕ) (stack : List ℕ) (m k : 
       subst (λ i. Chain (framed first keys last) i (get (set stack n last)) (n + 1)) d
       (step n last h s (omega arith) (sym (framed_last first keys last) ∙ ap (λ i. framed first keys last (suc i)) e) p)
 
-pub bounds-stack-0 : goal.bounds-stack-0
-bounds-stack-0 c = omega arith
+pub loop-r-init : goal.loop-r-init
+loop-r-init c = single _ _ (get_or-set_same c.args.stack.now 0 _ 0 (omega (arith, c.requires.keys_in_bounds)))
 
-pub loop-m-init : goal.loop-m-init
-loop-m-init c =
-    (omega arith, (simp length-set c.requires.keys_in_bounds.0, (refl, single _ _ (get_or-set_same c.args.stack.now 0 _ 0 (omega (arith, c.requires.keys_in_bounds))))))
-
-pub offset_bounds-keys-m : goal.offset_bounds-keys-m
-offset_bounds-keys-m c = omega arith
-
-pub bounds-keys-m : goal.bounds-keys-m
-bounds-keys-m c = omega arith
-
-pub pop-n-requires : goal.pop-n-requires
-pop-n-requires c =
-    let l = c.loop-m in
-    let f = l.invariant.1.1.1 in
-    record {
-      le_k = (f.some, omega (arith, f.few, l.invariant));
-      all_keys = (vertices c.args.first c.args.keys.now c.args.last l.stack l.m l.k f l.invariant.1.0 l.invariant.0 c.requires.key, c.requires.key.1.key l.m (omega arith));
-    }
-
-pub offset_bounds-stack-n : goal.offset_bounds-stack-n
-offset_bounds-stack-n c = let l = c.loop-m in omega (arith, c.pop-n.ensures.most, l.invariant.1.1.1.few, l.invariant)
-
-pub bounds-stack-n : goal.bounds-stack-n
-bounds-stack-n c = let l = c.loop-m in omega (arith, c.pop-n.ensures.most, l.invariant.1.1.1.few, l.invariant)
-
-pub overflow_add-k : goal.overflow_add-k
-overflow_add-k c = let l = c.loop-m in omega (arith, c.pop-n.ensures.most, l.invariant.1.1.1.few, l.invariant)
-
-pub overflow_add-m : goal.overflow_add-m
-overflow_add-m c = omega arith
-
-pub loop-m-smaller : goal.loop-m-smaller
-loop-m-smaller c = omega arith
-
-pub loop-m-preserved : goal.loop-m-preserved
-loop-m-preserved c =
-    let l = c.loop-m in
-    let ks = c.args.keys.now in
-    let o : l.m < length ks = omega arith in (
-      omega arith,
-      (
-        simp length-set l.invariant.1.0,
-        (
-          length-set l.stack c.pop-n.result _ ∙ l.invariant.1.1.0,
-          rw (add-one l.m)
-              (step c.args.first ks c.args.last l.stack l.m l.k l.invariant.1.1.1 l.invariant.1.0 c.pop-n.result _ c.requires.keys_in_bounds.1 c.requires.sorted l.invariant.0
-              (sym (framed_at c.args.first ks c.args.last l.m o)) c.pop-n.ensures),
-        ),
-      ),
+pub pop-n-requires-clause-all_keys : goal.pop-n-requires-clause-all_keys
+pop-n-requires-clause-all_keys c =
+    let l = c.loop-r in (
+      vertices c.args.first c.args.keys.now c.args.last l.stack l.r-index l.k l.invariant (omega (arith, length-set c.args.stack.now 0 c.args.first)) (omega arith) c.requires.key,
+      c.requires.key.1.key l.r-index (omega arith),
     )
 
-pub pop-n-requires-2 : goal.pop-n-requires-2
-pop-n-requires-2 c =
-    let l = c.loop-m in
-    let f = l.invariant.1.1.1 in
-    record {
-      le_k = (f.some, omega (arith, f.few, l.invariant));
-      all_keys = (vertices c.args.first c.args.keys.now c.args.last l.stack l.m l.k f l.invariant.1.0 l.invariant.0 c.requires.key, c.requires.key.2);
-    }
+pub loop-r-preserved : goal.loop-r-preserved
+loop-r-preserved c =
+    let l = c.loop-r in
+    let ks = c.args.keys.now in
+    let o : l.r-index < length ks = omega arith in
+    rw (add-one l.r-index)
+    (step c.args.first ks c.args.last l.stack l.r-index l.k l.invariant (omega (arith, length-set c.args.stack.now 0 c.args.first)) c.pop-n.result _ c.requires.keys_in_bounds.1 c.requires.sorted (omega arith)
+    (sym (framed_at c.args.first ks c.args.last l.r-index o)) c.pop-n.ensures)
 
-pub offset_bounds-stack-n-2 : goal.offset_bounds-stack-n-2
-offset_bounds-stack-n-2 c = let l = c.loop-m in omega (arith, c.pop-n-2.ensures.most, l.invariant.1.1.1.few, l.invariant)
-
-pub bounds-stack-n-2 : goal.bounds-stack-n-2
-bounds-stack-n-2 c = let l = c.loop-m in omega (arith, c.pop-n-2.ensures.most, l.invariant.1.1.1.few, l.invariant)
-
-pub overflow_add-result : goal.overflow_add-result
-overflow_add-result c = let l = c.loop-m in omega (arith, c.pop-n-2.ensures.most, l.invariant.1.1.1.few, l.invariant)
-
-pub shape_of-stack : goal.shape_of-stack
-shape_of-stack c = let l = c.loop-m in length-set l.stack c.pop-n-2.result _ ∙ l.invariant.1.1.0 ∙ simp length-set
+pub pop-n-requires-2-clause-all_keys : goal.pop-n-requires-2-clause-all_keys
+pop-n-requires-2-clause-all_keys c =
+    let l = c.loop-r in (
+      vertices c.args.first c.args.keys.now c.args.last l.stack l.r-index l.k l.invariant (omega (arith, length-set c.args.stack.now 0 c.args.first)) (omega arith) c.requires.key,
+      c.requires.key.2,
+    )
 
 pub returns : goal.returns
 returns c =
-    let l = c.loop-m in
-    finish c.args.first c.args.keys.now c.args.last l.stack l.m l.k l.invariant.1.1.1 l.invariant.1.0 c.pop-n-2.result c.requires.keys_in_bounds.1 c.requires.sorted
-    (omega (arith, l.invariant.0)) c.pop-n-2.ensures
+    let l = c.loop-r in
+    finish c.args.first c.args.keys.now c.args.last l.stack l.r-index l.k l.invariant (omega (arith, length-set c.args.stack.now 0 c.args.first)) c.pop-n-2.result c.requires.keys_in_bounds.1 c.requires.sorted (omega arith)
+    c.pop-n-2.ensures

@@ -1,5 +1,5 @@
 -- `extremes::find_ends` meets its contract. The invariant: of the first i keys, first is the least and last the greatest. Assumes nothing.
-use Rattle.std.proofs.Common.{◌≡◌, ℕ, ◌-◌, ◌<◌, ◌≤◌, List, length}
+use Rattle.std.proofs.Common.{◌≡◌, ℕ, ◌<◌, ◌≤◌, List, length}
 use Rattle.orders.specs.Order.{get}
 use Rattle.extremes.proofs.find_ends.Given as goal
 
@@ -11,8 +11,5 @@ pub record Sofar (l : List ℕ) (i first last : ℕ) : Type 0 where
   pub least : (j : ℕ) → j < i → first ≤ get l j
   pub most : (j : ℕ) → j < i → get l j ≤ last
 
-abbrev pub invariant-loop-i : goal.invariant-loop-i
-invariant-loop-i l = Sofar l.keys l.i l.first l.last
-
-abbrev pub decreases-loop-i : goal.decreases-loop-i
-decreases-loop-i l = length l.keys - l.i
+abbrev pub invariant-loop-key : goal.invariant-loop-key
+invariant-loop-key l = Sofar l.keys l.key-index l.first l.last
