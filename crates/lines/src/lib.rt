@@ -19,9 +19,9 @@ pub fn line_through(a: u32, b: u32) -> Line
     requires { Key a × Key b }
     ensures { LineOf a b result }
 {
-    let east = turns::east_between(a, b) as i64;
-    let north = turns::north_between(a, b) as i64;
-    let offset = east * (turns::north_part(a) as i64) - north * (turns::east_part(a) as i64);
+    let east = i64::from(turns::east_between(a, b));
+    let north = i64::from(turns::north_between(a, b));
+    let offset = east * i64::from(turns::north_part(a)) - north * i64::from(turns::east_part(a));
     Line {
         east,
         north,
@@ -35,7 +35,7 @@ pub fn side_of(line: Line, k: u32) -> i64
     requires { Drawn line × Key k }
     ensures { SideOf line k result }
 {
-    line.east * (turns::north_part(k) as i64)
-        - line.north * (turns::east_part(k) as i64)
+    line.east * i64::from(turns::north_part(k))
+        - line.north * i64::from(turns::east_part(k))
         - line.offset
 }
