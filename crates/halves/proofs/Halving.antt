@@ -1,5 +1,5 @@
 -- Splitting keys by the line from the least to the greatest (specs/Halves): what is known after some keys are passed (`Splitting`). Assumes nothing.
-use mathlib.Core.Bool.{Bool, true, false, cond}
+use mathlib.Core.Bool.{Bool, true, false}
 use mathlib.Core.Path.{◌≡◌, refl, sym, ap, ◌∙◌, subst}
 use mathlib.Core.Logic.{◌⊎◌, inl, inr, ⊎_elim}
 use mathlib.Core.List.{List}
@@ -9,6 +9,7 @@ use native.Mathlib.Omega.{arith}
 use lib.IntN.{pos}
 use lib.Signed.{◌≤ℤ◌, ◌<ℤ◌, lt_z}
 use lib.ListN.{length, set, length-set}
+use Rattle.std.specs.Int.{from_bool}
 use lib.Seq.{get_or-set_same, get_or-set_other}
 use Rattle.integers.proofs.Rules.{zrules}
 use Rattle.plane.specs.Points.{signed_area}
@@ -105,6 +106,8 @@ pub record Splitting (old : List ℕ) (first last : ℕ) (keys mirror : List ℕ
   pub long : length keys ≡ length old
   pub room : length old ≤ length mirror
   pub unread : (j : ℕ) → i ≤ j → get keys j ≡ get old j
+  -- so many are taken
+  pub few : u + v ≤ i
   spare : Spare (get old) first last i (u + v)
   up : Part (get old) i (λ k. k) (get keys) u (Left first last) (NotLeft first last)
   down : Part (get old) i reflected (get mirror) v (Right first last) (NotRight first last)
@@ -116,6 +119,7 @@ splitting old mirror first last h =
       long = refl;
       room = h;
       unread = λ j l. refl;
+      few = omega arith;
       spare =
           record {
             most = omega arith;
@@ -127,28 +131,17 @@ splitting old mirror first last h =
       down = part_none (get old) _ (get mirror) _ _;
     }
 
-pub at_most_one : (b : Bool) (d : ℕ) → d ≡ cond b 1 0 → d ≤ 1
-at_most_one true d e = omega arith
-at_most_one false d e = omega arith
-
 -- what is counted by a test that tells T from P
-pub counted : {T P : Type 0} (b : Bool) (d : ℕ) → d ≡ cond b 1 0 → (b ≡ true → T) → (b ≡ false → P) → ((d ≡ 1) × T) ⊎ ((d ≡ 0) × P)
+pub counted : {T P : Type 0} (b : Bool) (d : ℕ) → d ≡ from_bool b → (b ≡ true → T) → (b ≡ false → P) → ((d ≡ 1) × T) ⊎ ((d ≡ 0) × P)
 counted true d e t p = inl (e, t refl)
 counted false d e t p = inr (e, p refl)
 
 module _ (old : List ℕ) (first last : ℕ) (keys mirror : List ℕ) (i u v : ℕ) (p : Splitting old first last keys mirror i u v) where
-  -- so many are taken
-  pub taken_few : u + v ≤ i
-  taken_few = p.spare.most
-
-  pub key_is : get keys i ≡ get old i
-  key_is = p.unread i (omega arith)
-
   -- a turn, with what the code counts
   module _ (key key' : ℕ) (left right : Bool) (d e : ℕ) (h : first < last) (o : i < length old) (ke : key ≡ get old i) (ke' : key' ≡ reflected key)
       (le : left ≡ lt_z (pos 0) (signed_area (point_of first) (point_of last) (point_of key)))
       (re : right ≡ lt_z (signed_area (point_of first) (point_of last) (point_of key)) (pos 0))
-      (de : d ≡ cond left 1 0) (ee : e ≡ cond right 1 0) where
+      (de : d ≡ from_bool left) (ee : e ≡ from_bool right) where
     lefts : ((d ≡ 1) × Left first last (get old i)) ⊎ ((d ≡ 0) × NotLeft first last (get old i))
     lefts =
         counted left d de (λ z. subst (Left first last) ke (left_if first last key left le z)) (λ z. subst (NotLeft first last) ke (not_left_if first last key left le z))
@@ -183,14 +176,15 @@ module _ (old : List ℕ) (first last : ℕ) (keys mirror : List ℕ) (i u v : �
           i_in = omega arith;
           long = length-set keys u key ∙ p.long;
           room = simp length-set p.room;
-          unread = λ j l. get_or-set_other keys u j key 0 (λ z. omega (arith, taken_few)) ∙ p.unread j (omega arith);
+          unread = λ j l. get_or-set_other keys u j key 0 (λ z. omega (arith, p.few)) ∙ p.unread j (omega arith);
+          few = spare'.most;
           spare = spare';
           up =
               part_more (get old) i (λ k. k) (get keys) (get (set keys u key)) u _ _ p.up (λ j l. get_or-set_other keys u j key 0 (λ z. omega arith))
-              (get_or-set_same keys u key 0 (omega (arith, taken_few, p.long)) ∙ ke) d lefts;
+              (get_or-set_same keys u key 0 (omega (arith, p.few, p.long)) ∙ ke) d lefts;
           down =
               part_more (get old) i reflected (get mirror) (get (set mirror v key')) v _ _ p.down (λ j l. get_or-set_other mirror v j key' 0 (λ z. omega arith))
-              (get_or-set_same mirror v key' 0 (omega (arith, taken_few, p.room)) ∙ ke' ∙ ap reflected ke) e rights;
+              (get_or-set_same mirror v key' 0 (omega (arith, p.few, p.room)) ∙ ke' ∙ ap reflected ke) e rights;
         }
 
   pub split_end : length old ≤ i → EndsOf old first last → Halves old first last keys mirror u v
