@@ -22,14 +22,14 @@ use Rattle.orders.proofs.Digits.{passes, rearranged_passes, sorted_passes}
 use Rattle.orders.proofs.Front.{front_within}
 use Rattle.chains.specs.Chains.{Chain, Under, framed}
 use Rattle.extremes.specs.Inner.{EndsOf, Among, Inner, Outer}
-use Rattle.halves.specs.Halves.{Part, Halves, PartsReordered, Appended}
+use Rattle.halves.specs.Halves.{Appended}
 use Rattle.hulls.specs.Hulls.{Least, Hull}
 use Rattle.chains.proofs.Chaining.{among, chain_keys}
 use Rattle.chains.proofs.Turning.{turn_over}
 use Rattle.hulls.proofs.Mirroring.{Mirrors, reflected_turn, mirror_keys}
 use Rattle.hulls.proofs.Halving.{Half, widen}
-use Rattle.halves.proofs.Halving.{Left, Right, NotLeft, NotRight, first_key, last_key}
-use Rattle.hulls.proofs.Parting.{part_front, part_under}
+use Rattle.halves.proofs.Halving.{first_key, last_key}
+use Rattle.hulls.proofs.Parting.{Parted, part_under}
 use Rattle.hulls.proofs.Listing.{Closed, closed_few, single_key, closed_is, sides_few}
 use Rattle.hulls.proofs.Outlines.{closed_outline, point_in, from_point, within_points}
 use Rattle.extremes.proofs.Dropping.{front_rest}
@@ -218,27 +218,18 @@ module _ (keys up down old l : List ℕ) (first last ku kl : ℕ) (ks : AllKeys 
   pub chained : TwoChains keys old l ku kl
   chained = record { few = made_few; lower = made_lower; hull = made_hull }
 
--- the two parts of the keys that the line from the least to the greatest splits, u of them in up and v in down; both in order, in up' and down'
-module _ (keys up down up' down' old l : List ℕ) (first last u v ku kl : ℕ) (ks : AllKeys (get keys) (length keys)) (h : first < last) (ends : EndsOf keys first last)
-    (hs : Halves keys first last up down u v) (ro : PartsReordered up up' down down' u v) (room : u ≤ length up') (room' : v ≤ length down')
-    (cu : Chain (framed first (take u up') last) (length (take u up') + 2) (get old) ku)
-    (first' last' : ℕ) (f-is : first' ≡ reflected first) (l-is : last' ≡ reflected last)
-    (cl : Chain (framed last' (take v down') first') (length (take v down') + 2) (get l) kl) where
-  upper : Part (get keys) (length keys) (λ k. k) (get (take u up')) (length (take u up')) (Left first last) (NotLeft first last)
-  upper = part_front up up' u ro.upper room hs.above
-
-  lower : Part (get keys) (length keys) reflected (get (take v down')) (length (take v down')) (Right first last) (NotRight first last)
-  lower = part_front down down' v ro.lower room' hs.below
-
-  pub made : TwoChains keys old l ku kl
-  made =
-      chained keys (take u up') (take v down') old l first last ku kl ks h ends
-      (record { find = λ j o. let r = upper.from j o in (r.0, r.1, r.2) })
-      (λ i o. part_under (take u up') (ends.least i o) (ends.most i o) (upper.rest i o))
-      (λ j o. let r = lower.from j o in (r.0, r.1, r.2))
-      (λ i o. part_under (take v down') (reflected_le (ends.most i o)) (reflected_le (ends.least i o))
-      (⊎_elim inl (λ t. inr (rw (reflected_turn (last_key ends ks) (first_key ends ks) (ks.key i o)) (turn_over first last (get keys i) t))) (lower.rest i o)))
-      cu (rw (← f-is, ← l-is) cl)
+-- the two parts of the keys that the line from the least to the greatest splits
+pub made : {keys upper lower old l : List ℕ} {first last first' last' ku kl : ℕ} → Parted keys first last upper lower → first < last
+    → Chain (framed first upper last) (length upper + 2) (get old) ku → first' ≡ reflected first → last' ≡ reflected last
+    → Chain (framed last' lower first') (length lower + 2) (get l) kl → TwoChains keys old l ku kl
+made {keys} {upper} {lower} {old} {l} {first} {last} {first'} {last'} {ku} {kl} p h cu f-is l-is cl =
+    chained keys upper lower old l first last ku kl p.all h p.ends
+    (record { find = λ j o. let r = p.above.from j o in (r.0, r.1, r.2) })
+    (λ i o. part_under upper (p.ends.least i o) (p.ends.most i o) (p.above.rest i o))
+    (λ j o. let r = p.below.from j o in (r.0, r.1, r.2))
+    (λ i o. part_under lower (reflected_le (p.ends.most i o)) (reflected_le (p.ends.least i o))
+    (⊎_elim inl (λ t. inr (rw (reflected_turn (last_key p.ends p.all) (first_key p.ends p.all) (p.all.key i o)) (turn_over first last (get keys i) t))) (p.below.rest i o)))
+    cu (rw (← f-is, ← l-is) cl)
 
 -- the same where all keys are one
 pub made_one : (keys out : List ℕ) (first last : ℕ) → 1 ≤ length keys → 1 ≤ length out → AllKeys (get keys) (length keys) → EndsOf keys first last

@@ -16,10 +16,10 @@ use Rattle.turns.specs.Reflection.{reflected}
 use Rattle.turns.proofs.Reflection.{reflected_key, reflected_less}
 use Rattle.chains.specs.Chains.{turn, Amid, Under}
 use Rattle.extremes.specs.Inner.{Among, EndsOf}
-use Rattle.halves.specs.Halves.{Part, Reordered}
+use Rattle.halves.specs.Halves.{Part, Halves, Reordered, PartsReordered}
 use Rattle.chains.proofs.Turning.{turn_first, turn_last}
 use Rattle.chains.proofs.Covering.{under_first, under_last, under_among, under_between}
-use Rattle.halves.proofs.Halving.{Left, Right, NotLeft, NotRight, last_key}
+use Rattle.halves.proofs.Halving.{Left, Right, NotLeft, NotRight, first_key, last_key}
 
 -- ---- a part, in order, as a callee sees it that is lent the first of a list
 
@@ -93,6 +93,48 @@ module _ {keys : List ℕ} {first last : ℕ} (ends : EndsOf keys first last) wh
 
       pub lower_keys : AllKeys out v
       lower_keys = record { key = λ j h. let r = p.from j h in subst Key (sym r.2) (reflected_key (ks.key r.0 r.1)) }
+
+-- ---- both parts, each in order: upper, and lower, which is reflected
+
+pub record Parted (keys : List ℕ) (first last : ℕ) (upper lower : List ℕ) : Type 0 where
+  pub ends : EndsOf keys first last
+  pub all : AllKeys (get keys) (length keys)
+  pub above : Part (get keys) (length keys) (λ k. k) (get upper) (length upper) (Left first last) (NotLeft first last)
+  pub below : Part (get keys) (length keys) reflected (get lower) (length lower) (Right first last) (NotRight first last)
+  pub upper_sorted : Sorted (get upper) 0 (length upper)
+  pub lower_sorted : Sorted (get lower) 0 (length lower)
+
+pub parted : {keys up down up' down' : List ℕ} {first last u v : ℕ} → EndsOf keys first last → AllKeys (get keys) (length keys)
+    → Halves keys first last up down u v → PartsReordered up up' down down' u v → u ≤ length up' → v ≤ length down'
+    → Parted keys first last (take u up') (take v down')
+parted {keys} {up} {down} {up'} {down'} {first} {last} {u} {v} ends ks hs ro h k =
+    record {
+      ends = ends;
+      all = ks;
+      above = part_front up up' u ro.upper h hs.above;
+      below = part_front down down' v ro.lower k hs.below;
+      upper_sorted = sorted_front up up' u ro.upper h;
+      lower_sorted = sorted_front down down' v ro.lower k;
+    }
+
+-- what `chains::upper_chain` asks of each
+module _ {keys : List ℕ} {first last : ℕ} {upper lower : List ℕ} (p : Parted keys first last upper lower) where
+  pub upper_input : Sorted (get upper) 0 (length upper) × Amid (get upper) (length upper) first last
+  upper_input = (p.upper_sorted, upper_amid p.ends p.all p.above)
+
+  pub upper_all : Key first × AllKeys (get upper) (length upper) × Key last
+  upper_all = (first_key p.ends p.all, upper_keys p.ends p.all p.above, last_key p.ends p.all)
+
+  -- of the ends, reflected
+  module _ {f l : ℕ} (fe : f ≡ reflected first) (le : l ≡ reflected last) where
+    pub lower_less : first < last → l < f
+    lower_less h = rw (fe, le) (reflected_less (last_key p.ends p.all) h)
+
+    pub lower_input : Sorted (get lower) 0 (length lower) × Amid (get lower) (length lower) l f
+    lower_input = (p.lower_sorted, rw (fe, le) (lower_amid p.ends p.all p.below))
+
+    pub lower_all : Key l × AllKeys (get lower) (length lower) × Key f
+    lower_all = (rw le (reflected_key (last_key p.ends p.all)), lower_keys p.ends p.all p.below, rw fe (reflected_key (first_key p.ends p.all)))
 
 -- ---- no key is above the part, which is those left of the line from the first to the last
 

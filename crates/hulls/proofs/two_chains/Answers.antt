@@ -1,89 +1,38 @@
--- `hulls::two_chains` meets its contract. In the answers s is the function's entry, x the call of `split`, y that of `sort_parts`, u and l the two of `upper_chain`.
--- The geometry is proofs/Made: `made`. Assumes nothing.
-use mathlib.Core.Path.{sym}
+-- `hulls::two_chains` meets its contract. The parts are proofs/Parting: `Parted`; the geometry is proofs/Made: `made`. Assumes nothing.
 use native.Mathlib.Omega.{arith}
 use lib.Seq.{length-take-le}
-use Rattle.turns.proofs.Reflection.{reflected_key, reflected_less}
-use Rattle.hulls.proofs.Parting.{sorted_front, part_front, upper_amid, upper_keys, lower_amid, lower_keys}
-use Rattle.halves.proofs.Halving.{first_key, last_key}
-use Rattle.hulls.proofs.Made.{TwoChains, made}
+use Rattle.hulls.proofs.Parting.{parted, upper_input, upper_all, lower_less, lower_input, lower_all}
+use Rattle.hulls.proofs.Made.{made}
 use Rattle.hulls.proofs.two_chains.Goals as goal
 
-pub sort_parts-requires : goal.sort_parts-requires
-sort_parts-requires c =
+pub upper_chain-ku-requires-clause-sorted : goal.upper_chain-ku-requires-clause-sorted
+upper_chain-ku-requires-clause-sorted c =
     let x = c.split-parts in
-    record {
-      keys_room = omega (arith, x.ensures.few, x.auto.keys);
-      mirror_room = omega (arith, x.ensures.few, x.auto.mirror, c.requires.keys_in_bounds);
-      upper_room = omega (arith, x.ensures.few, c.requires.keys_in_bounds);
-      lower_room = omega (arith, x.ensures.few, c.requires.keys_in_bounds);
-    }
+    upper_input (parted c.requires.first_lt_last.1 c.requires.all_keys x.ensures c.sort_parts.ensures (omega (arith, x.ensures.few)) (omega (arith, x.ensures.few, c.requires.keys_in_bounds)))
 
-pub slice_bounds-upper_chain-end-2 : goal.slice_bounds-upper_chain-end-2
-slice_bounds-upper_chain-end-2 c =
-    sym (length-take-le c.split-parts.result.upper c.sort_parts.new.keys (omega (arith, c.split-parts.ensures.few, c.split-parts.auto.keys, c.sort_parts.auto.keys)))
-
-pub upper_chain-ku-requires : goal.upper_chain-ku-requires
-upper_chain-ku-requires c =
+pub upper_chain-ku-requires-clause-key : goal.upper_chain-ku-requires-clause-key
+upper_chain-ku-requires-clause-key c =
     let x = c.split-parts in
-    let y = c.sort_parts in
-    let q = part_front x.new.keys y.new.keys x.result.upper y.ensures.upper (omega (arith, c.split-parts.ensures.few, c.split-parts.auto.keys, c.sort_parts.auto.keys)) x.ensures.above in
-    let e = length-take-le x.result.upper y.new.keys (omega (arith, c.split-parts.ensures.few, c.split-parts.auto.keys, c.sort_parts.auto.keys)) in
-    record {
-      keys_in_bounds = (omega (arith, x.ensures.few, c.requires.keys_in_bounds, y.auto.scratch), c.requires.first_lt_last.0);
-      sorted = (sorted_front x.new.keys y.new.keys x.result.upper y.ensures.upper (omega (arith, c.split-parts.ensures.few, c.split-parts.auto.keys, c.sort_parts.auto.keys)), upper_amid c.requires.first_lt_last.1 c.requires.all_keys q);
-      key = (first_key c.requires.first_lt_last.1 c.requires.all_keys, upper_keys c.requires.first_lt_last.1 c.requires.all_keys q, last_key c.requires.first_lt_last.1 c.requires.all_keys);
-    }
-
-pub reflected-requires : goal.reflected-requires
-reflected-requires c = last_key c.requires.first_lt_last.1 c.requires.all_keys
-
-pub slice_bounds-upper_chain-end-4 : goal.slice_bounds-upper_chain-end-4
-slice_bounds-upper_chain-end-4 c =
-    sym (length-take-le c.split-parts.result.lower c.sort_parts.new.mirror (omega (arith, c.split-parts.ensures.few, c.split-parts.auto.mirror, c.sort_parts.auto.mirror, c.requires.keys_in_bounds)))
-
-pub reflected-requires-2 : goal.reflected-requires-2
-reflected-requires-2 c = first_key c.requires.first_lt_last.1 c.requires.all_keys
+    upper_all (parted c.requires.first_lt_last.1 c.requires.all_keys x.ensures c.sort_parts.ensures (omega (arith, x.ensures.few)) (omega (arith, x.ensures.few, c.requires.keys_in_bounds)))
 
 pub upper_chain-kl-requires : goal.upper_chain-kl-requires
 upper_chain-kl-requires c =
     let x = c.split-parts in
-    let y = c.sort_parts in
+    let p = parted c.requires.first_lt_last.1 c.requires.all_keys x.ensures c.sort_parts.ensures (omega (arith, x.ensures.few)) (omega (arith, x.ensures.few, c.requires.keys_in_bounds)) in
+    let e = length-take-le x.result.lower c.sort_parts.new.mirror (omega (arith, x.ensures.few, c.requires.keys_in_bounds)) in
     let f = c.reflected-2.ensures in
-    let g = c.reflected.ensures in
-    let q = part_front x.new.mirror y.new.mirror x.result.lower y.ensures.lower (omega (arith, c.split-parts.ensures.few, c.split-parts.auto.mirror, c.sort_parts.auto.mirror, c.requires.keys_in_bounds)) x.ensures.below in
-    let e = length-take-le x.result.lower y.new.mirror (omega (arith, c.split-parts.ensures.few, c.split-parts.auto.mirror, c.sort_parts.auto.mirror, c.requires.keys_in_bounds)) in
-    record {
-      keys_in_bounds = (omega (arith, x.ensures.few, x.auto.keys, y.auto.keys), rw (f, g) (reflected_less (last_key c.requires.first_lt_last.1 c.requires.all_keys) c.requires.first_lt_last.0));
-      sorted = (sorted_front x.new.mirror y.new.mirror x.result.lower y.ensures.lower (omega (arith, c.split-parts.ensures.few, c.split-parts.auto.mirror, c.sort_parts.auto.mirror, c.requires.keys_in_bounds)), rw (f, g) (lower_amid c.requires.first_lt_last.1 c.requires.all_keys q));
-      key = (rw g (reflected_key (last_key c.requires.first_lt_last.1 c.requires.all_keys)), lower_keys c.requires.first_lt_last.1 c.requires.all_keys q, rw f (reflected_key (first_key c.requires.first_lt_last.1 c.requires.all_keys)));
-    }
+    let l = c.reflected.ensures in
+    record { keys_in_bounds = (omega (arith, x.ensures.few), lower_less p f l c.requires.first_lt_last.0); sorted = lower_input p f l; key = lower_all p f l }
 
-pub append_reflected-requires : goal.append_reflected-requires
-append_reflected-requires c =
-    let both : TwoChains c.args.keys.now c.upper_chain-ku.new.stack c.upper_chain-kl.new.stack c.upper_chain-ku.result c.upper_chain-kl.result =
-    made c.args.keys.now c.split-parts.new.keys c.split-parts.new.mirror c.sort_parts.new.keys c.sort_parts.new.mirror c.upper_chain-ku.new.stack c.upper_chain-kl.new.stack c.args.first c.args.last c.split-parts.result.upper c.split-parts.result.lower c.upper_chain-ku.result c.upper_chain-kl.result c.requires.all_keys c.requires.first_lt_last.0 c.requires.first_lt_last.1 c.split-parts.ensures c.sort_parts.ensures (omega (arith, c.split-parts.ensures.few, c.split-parts.auto.keys, c.sort_parts.auto.keys)) (omega (arith, c.split-parts.ensures.few, c.split-parts.auto.mirror, c.sort_parts.auto.mirror, c.requires.keys_in_bounds)) c.upper_chain-ku.ensures c.reflected-2.result c.reflected.result c.reflected-2.ensures c.reflected.ensures c.upper_chain-kl.ensures in
+pub append_reflected-requires-clause-all_keys : goal.append_reflected-requires-clause-all_keys
+append_reflected-requires-clause-all_keys c =
     let x = c.split-parts in
-    let y = c.sort_parts in
-    let l = c.upper_chain-kl in
-    let e = length-take-le x.result.lower y.new.mirror (omega (arith, c.split-parts.ensures.few, c.split-parts.auto.mirror, c.sort_parts.auto.mirror, c.requires.keys_in_bounds)) in
-    record {
-      count_in_bounds = (
-        omega (arith, l.ensures.few, l.auto.stack, x.ensures.few, x.auto.keys, y.auto.keys),
-        omega (arith, both.few, c.upper_chain-ku.auto.stack, c.requires.keys_in_bounds, y.auto.scratch),
-      );
-      all_keys = both.lower;
-    }
-
-pub overflow_add-result : goal.overflow_add-result
-overflow_add-result c =
-    let both : TwoChains c.args.keys.now c.upper_chain-ku.new.stack c.upper_chain-kl.new.stack c.upper_chain-ku.result c.upper_chain-kl.result =
-    made c.args.keys.now c.split-parts.new.keys c.split-parts.new.mirror c.sort_parts.new.keys c.sort_parts.new.mirror c.upper_chain-ku.new.stack c.upper_chain-kl.new.stack c.args.first c.args.last c.split-parts.result.upper c.split-parts.result.lower c.upper_chain-ku.result c.upper_chain-kl.result c.requires.all_keys c.requires.first_lt_last.0 c.requires.first_lt_last.1 c.split-parts.ensures c.sort_parts.ensures (omega (arith, c.split-parts.ensures.few, c.split-parts.auto.keys, c.sort_parts.auto.keys)) (omega (arith, c.split-parts.ensures.few, c.split-parts.auto.mirror, c.sort_parts.auto.mirror, c.requires.keys_in_bounds)) c.upper_chain-ku.ensures c.reflected-2.result c.reflected.result c.reflected-2.ensures c.reflected.ensures c.upper_chain-kl.ensures in
-    omega (arith, both.few, c.well_formed)
+    let p = parted c.requires.first_lt_last.1 c.requires.all_keys x.ensures c.sort_parts.ensures (omega (arith, x.ensures.few)) (omega (arith, x.ensures.few, c.requires.keys_in_bounds)) in
+    (made p c.requires.first_lt_last.0 c.upper_chain-ku.ensures c.reflected-2.ensures c.reflected.ensures c.upper_chain-kl.ensures).lower
 
 pub returns : goal.returns
 returns c =
-    let both : TwoChains c.args.keys.now c.upper_chain-ku.new.stack c.upper_chain-kl.new.stack c.upper_chain-ku.result c.upper_chain-kl.result =
-    made c.args.keys.now c.split-parts.new.keys c.split-parts.new.mirror c.sort_parts.new.keys c.sort_parts.new.mirror c.upper_chain-ku.new.stack c.upper_chain-kl.new.stack c.args.first c.args.last c.split-parts.result.upper c.split-parts.result.lower c.upper_chain-ku.result c.upper_chain-kl.result c.requires.all_keys c.requires.first_lt_last.0 c.requires.first_lt_last.1 c.split-parts.ensures c.sort_parts.ensures (omega (arith, c.split-parts.ensures.few, c.split-parts.auto.keys, c.sort_parts.auto.keys)) (omega (arith, c.split-parts.ensures.few, c.split-parts.auto.mirror, c.sort_parts.auto.mirror, c.requires.keys_in_bounds)) c.upper_chain-ku.ensures c.reflected-2.result c.reflected.result c.reflected-2.ensures c.reflected.ensures c.upper_chain-kl.ensures in
-    let w = c.append_reflected in
-    both.hull w.new.vertices (omega (arith, w.auto.vertices, c.upper_chain-ku.auto.stack, c.sort_parts.auto.scratch, c.requires.keys_in_bounds)) w.ensures
+    let x = c.split-parts in
+    let p = parted c.requires.first_lt_last.1 c.requires.all_keys x.ensures c.sort_parts.ensures (omega (arith, x.ensures.few)) (omega (arith, x.ensures.few, c.requires.keys_in_bounds)) in
+    (made p c.requires.first_lt_last.0 c.upper_chain-ku.ensures c.reflected-2.ensures c.reflected.ensures c.upper_chain-kl.ensures).hull
+    c.append_reflected.new.vertices (omega (arith, c.requires.keys_in_bounds)) c.append_reflected.ensures
