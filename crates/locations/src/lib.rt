@@ -32,6 +32,7 @@ fn place_on_segment(a: u32, b: u32, plug: u32) -> Place
 }
 
 // The index of the vertex from which the plug lies on to the next one, as seen from the first: by halving.
+// (`partition_point` promises nothing of a list that is not known to be parted; this needs no more than its ends.)
 fn fan_index(vertices: &[u32], plug: u32) -> usize
     requires { InFan vertices.now plug }
     ensures { FanWedge vertices.now plug result }

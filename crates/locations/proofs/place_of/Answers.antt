@@ -1,7 +1,8 @@
 -- `locations::place_of` meets its contract: what each test says of the side that was tested (proofs/Segments.antt, Fans.antt). Assumes nothing.
-use Prim.Native.Nat.{◌-◌, ◌<◌, ◌^◌}
+use Prim.Native.Nat.{ℕ, ◌-◌, ◌<◌, ◌^◌}
 use mathlib.Core.Path.{◌≡◌, refl, sym, ◌∙◌}
 use mathlib.Core.Bool.{true, false}
+use mathlib.Core.List.{List}
 use native.Mathlib.Omega.{arith}
 use lib.IntN.{ℤ, pos}
 use lib.Signed.{◌≤ℤ◌, ◌<ℤ◌, mag, lt_z}
@@ -12,11 +13,11 @@ use Rattle.integers.proofs.Machine.{lt_z_true, lt_z_false, lt_plain, le_plain}
 use Rattle.integers.proofs.Order.{≤-antisym, not-≤}
 use Rattle.integers.proofs.Tests.{lit, ok, eqz, nez}
 use Rattle.plane.proofs.Lists.{index_of_all}
+use Rattle.plane.specs.Points.{signed_area}
 use Rattle.turns.specs.Keys.{point_of}
 use Rattle.turns.proofs.Bounds.{returned}
 use Rattle.locations.specs.Search.{vertex_at}
 use Rattle.locations.proofs.Vertices.{side_next, side_closing, cyclic}
-use Rattle.locations.proofs.Segments.{segment_place}
 use Rattle.locations.proofs.Fans.{place_off, place_on, place_within}
 use Rattle.locations.proofs.place_of.Goals as goal
 
@@ -35,39 +36,36 @@ module _ {r z : ℤ} (m : mag r < 2 ^ hbits w64) (e : r ≡ z) where
   less : z ≤ℤ pos 0 → (of_z w64 r ≡ of_z w64 (pos 0) → ⊥) → z <ℤ pos 0
   less l t = not-≤ (λ k. nez {w = w64} (ok {w = w64} r m) (lit {w = w64} (pos 0) tt) t (e ∙ ≤-antisym l k))
 
-pub place_on_segment-requires : goal.place_on_segment-requires
-place_on_segment-requires c =
-    let n = c.requires.some in
-    (index_of_all 0 c.requires.vertices 0 n, index_of_all 0 c.requires.vertices _ (omega arith), c.requires.plug)
-
-pub returns-then-n-lt3 : goal.returns-then-n-lt3
-returns-then-n-lt3 c =
-    segment_place c.args.vertices.now c.requires.some c.if-n-lt3.true c.place_on_segment.ensures
-
-pub signed_area-of_first-requires : goal.signed_area-of_first-requires
-signed_area-of_first-requires c =
-    let n = c.if-n-lt3.false in
-    (index_of_all 0 c.requires.vertices 0 (omega arith), index_of_all 0 c.requires.vertices 1 (omega arith), c.requires.plug)
+-- the code asks of the last side from its second point on
+closing : (ks : List ℕ) (k : ℕ) {r : ℤ} → r ≡ signed_area (vertex_at ks 0) (point_of k) (vertex_at ks (length ks - 1))
+    → r ≡ signed_area (vertex_at ks (length ks - 1)) (vertex_at ks 0) (point_of k)
+closing ks k e = e ∙ cyclic (vertex_at ks (length ks - 1)) (vertex_at ks 0) (point_of k)
 
 pub returns-then-of_first-gt0 : goal.returns-then-of_first-gt0
 returns-then-of_first-gt0 c =
-    let n = c.if-n-lt3.false in
-    place_off _ _ _ _ (side_next c.args.vertices.now 0 (omega arith)) (more c.signed_area-of_first.type_inv c.signed_area-of_first.ensures c.if-of_first-gt0.true)
+    let x = c.signed_area-of_first in
+    place_off _ _ _ _ (side_next c.args.vertices.now 0 (omega arith)) (more x.type_inv x.ensures c.if-of_first-gt0.true)
 
 pub signed_area-of_last-requires : goal.signed_area-of_last-requires
 signed_area-of_last-requires c =
-    let n = c.requires.some in
-    (index_of_all 0 c.requires.vertices 0 n, c.requires.plug, index_of_all 0 c.requires.vertices _ (omega arith))
+    (index_of_all 0 c.requires.vertices 0 c.requires.some, c.requires.plug, index_of_all 0 c.requires.vertices _ (omega (arith, c.requires.some)))
 
 pub returns-then-of_last-gt0 : goal.returns-then-of_last-gt0
 returns-then-of_last-gt0 c =
-    let n = c.if-n-lt3.false in
-    place_off _ _ _ _ (side_closing c.args.vertices.now (omega arith)) (more c.signed_area-of_last.type_inv (c.signed_area-of_last.ensures ∙ cyclic (vertex_at c.args.vertices.now (length c.args.vertices.now - 1)) (vertex_at c.args.vertices.now 0) (point_of c.args.plug)) c.if-of_last-gt0.true)
+    let y = c.signed_area-of_last in
+    let ks = c.args.vertices.now in
+    place_off _ _ _ _ (side_closing ks (omega arith)) (more y.type_inv (closing ks c.args.plug y.ensures) c.if-of_last-gt0.true)
 
 pub fan_index-i-requires : goal.fan_index-i-requires
 fan_index-i-requires c =
-    let n = c.if-n-lt3.false in
-    record { keys = c.requires; three = omega arith; first_side = (at_most c.signed_area-of_first.type_inv c.signed_area-of_first.ensures c.if-of_first-gt0.false); last_side = (at_most c.signed_area-of_last.type_inv (c.signed_area-of_last.ensures ∙ cyclic (vertex_at c.args.vertices.now (length c.args.vertices.now - 1)) (vertex_at c.args.vertices.now 0) (point_of c.args.plug)) c.if-of_last-gt0.false) }
+    let x = c.signed_area-of_first in
+    let y = c.signed_area-of_last in
+    record {
+      keys = c.requires;
+      three = omega arith;
+      first_side = at_most x.type_inv x.ensures c.if-of_first-gt0.false;
+      last_side = at_most y.type_inv (closing c.args.vertices.now c.args.plug y.ensures) c.if-of_last-gt0.false;
+    }
 
 pub signed_area-of_next-requires : goal.signed_area-of_next-requires
 signed_area-of_next-requires c =
@@ -76,25 +74,43 @@ signed_area-of_next-requires c =
 
 pub returns-then-of_next-gt0 : goal.returns-then-of_next-gt0
 returns-then-of_next-gt0 c =
-    place_off _ _ _ _ (side_next c.args.vertices.now c.fan_index-i.result c.fan_index-i.ensures.in_range) (more c.signed_area-of_next.type_inv c.signed_area-of_next.ensures c.if-of_next-gt0.true)
+    let f = c.fan_index-i in
+    let z = c.signed_area-of_next in
+    place_off _ _ _ _ (side_next c.args.vertices.now f.result f.ensures.in_range) (more z.type_inv z.ensures c.if-of_next-gt0.true)
 
 pub returns-then-of_first-eq0 : goal.returns-then-of_first-eq0
 returns-then-of_first-eq0 c =
-    let l = c.fan_index-i.ensures.in_range in
-    place_on c.args.vertices.now c.args.plug c.fan_index-i.result c.fan_index-i.ensures (at_most c.signed_area-of_next.type_inv c.signed_area-of_next.ensures c.if-of_next-gt0.false) _ _ (side_next c.args.vertices.now 0 (omega arith)) (zero c.signed_area-of_first.type_inv c.signed_area-of_first.ensures c.if-of_first-eq0.true)
+    let x = c.signed_area-of_first in
+    let f = c.fan_index-i in
+    let z = c.signed_area-of_next in
+    let ks = c.args.vertices.now in
+    place_on ks c.args.plug f.result f.ensures (at_most z.type_inv z.ensures c.if-of_next-gt0.false) _ _
+    (side_next ks 0 (omega arith)) (zero x.type_inv x.ensures c.if-of_first-eq0.true)
 
 pub returns-then-of_last-eq0 : goal.returns-then-of_last-eq0
 returns-then-of_last-eq0 c =
-    let l = c.fan_index-i.ensures.in_range in
-    place_on c.args.vertices.now c.args.plug c.fan_index-i.result c.fan_index-i.ensures (at_most c.signed_area-of_next.type_inv c.signed_area-of_next.ensures c.if-of_next-gt0.false) _ _ (side_closing c.args.vertices.now (omega arith)) (zero c.signed_area-of_last.type_inv (c.signed_area-of_last.ensures ∙ cyclic (vertex_at c.args.vertices.now (length c.args.vertices.now - 1)) (vertex_at c.args.vertices.now 0) (point_of c.args.plug)) c.if-of_last-eq0.true)
+    let y = c.signed_area-of_last in
+    let f = c.fan_index-i in
+    let z = c.signed_area-of_next in
+    let ks = c.args.vertices.now in
+    place_on ks c.args.plug f.result f.ensures (at_most z.type_inv z.ensures c.if-of_next-gt0.false) _ _
+    (side_closing ks (omega arith)) (zero y.type_inv (closing ks c.args.plug y.ensures) c.if-of_last-eq0.true)
 
 pub returns-then-of_next-eq0 : goal.returns-then-of_next-eq0
 returns-then-of_next-eq0 c =
-    place_on c.args.vertices.now c.args.plug c.fan_index-i.result c.fan_index-i.ensures (at_most c.signed_area-of_next.type_inv c.signed_area-of_next.ensures c.if-of_next-gt0.false) _ _ (side_next c.args.vertices.now c.fan_index-i.result c.fan_index-i.ensures.in_range) (zero c.signed_area-of_next.type_inv c.signed_area-of_next.ensures c.if-of_next-eq0.true)
+    let f = c.fan_index-i in
+    let z = c.signed_area-of_next in
+    let ks = c.args.vertices.now in
+    place_on ks c.args.plug f.result f.ensures (at_most z.type_inv z.ensures c.if-of_next-gt0.false) _ _
+    (side_next ks f.result f.ensures.in_range) (zero z.type_inv z.ensures c.if-of_next-eq0.true)
 
 pub returns : goal.returns
 returns c =
+    let x = c.signed_area-of_first in
+    let y = c.signed_area-of_last in
+    let z = c.signed_area-of_next in
+    let last = closing c.args.vertices.now c.args.plug y.ensures in
     place_within _ _ c.fan_index-i.result c.fan_index-i.ensures
-    (less c.signed_area-of_first.type_inv c.signed_area-of_first.ensures (at_most c.signed_area-of_first.type_inv c.signed_area-of_first.ensures c.if-of_first-gt0.false) c.if-of_first-eq0.false)
-    (less c.signed_area-of_last.type_inv (c.signed_area-of_last.ensures ∙ cyclic (vertex_at c.args.vertices.now (length c.args.vertices.now - 1)) (vertex_at c.args.vertices.now 0) (point_of c.args.plug)) (at_most c.signed_area-of_last.type_inv (c.signed_area-of_last.ensures ∙ cyclic (vertex_at c.args.vertices.now (length c.args.vertices.now - 1)) (vertex_at c.args.vertices.now 0) (point_of c.args.plug)) c.if-of_last-gt0.false) c.if-of_last-eq0.false)
-    (less c.signed_area-of_next.type_inv c.signed_area-of_next.ensures (at_most c.signed_area-of_next.type_inv c.signed_area-of_next.ensures c.if-of_next-gt0.false) c.if-of_next-eq0.false)
+    (less x.type_inv x.ensures (at_most x.type_inv x.ensures c.if-of_first-gt0.false) c.if-of_first-eq0.false)
+    (less y.type_inv last (at_most y.type_inv last c.if-of_last-gt0.false) c.if-of_last-eq0.false)
+    (less z.type_inv z.ensures (at_most z.type_inv z.ensures c.if-of_next-gt0.false) c.if-of_next-eq0.false)
