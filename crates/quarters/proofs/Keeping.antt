@@ -12,7 +12,7 @@ use Rattle.orders.specs.Order.{get}
 use Rattle.extremes.specs.Inner.{Among}
 use Rattle.halves.specs.Halves.{Part, Reordered}
 use Rattle.halves.proofs.Halving.{part_none, part_more}
-use Rattle.quarters.specs.Quarters.{FurtherNorth, Northmost, Outside, KeptIf, Quarter, SortedQuarter}
+use Rattle.quarters.specs.Quarters.{Outside, KeptIf, Quarter, SortedQuarter}
 
 -- ---- a northmost key
 
@@ -21,25 +21,6 @@ pub record NorthmostUpto (l : List ℕ) (i p : ℕ) : Type 0 where
   pub i_in : i ≤ length l
   pub listed : Among (get l) (length l) p
   pub most : (j : ℕ) → j < i → north_part (get l j) ≤ north_part p
-
-pub northmost_start : (l : List ℕ) → 1 ≤ length l → NorthmostUpto l 0 (get l 0)
-northmost_start l h = record { i_in = omega arith; listed = (0, h, refl); most = λ j o. absurd (omega arith) }
-
--- the further north of it and the next key
-pub northmost_next : (l : List ℕ) (i p r : ℕ) → i < length l → NorthmostUpto l i p → FurtherNorth p (get l i) r → NorthmostUpto l (i + 1) r
-northmost_next l i p r o n f =
-    record {
-      i_in = omega arith;
-      listed = ⊎_elim (λ e. rw e n.listed) (λ e. (i, o, e)) f.either;
-      most = λ j k. most j k (dec_lt j i);
-    }
-  where
-    most : (j : ℕ) → j < i + 1 → Dec (j < i) → north_part (get l j) ≤ north_part r
-    most j k (yes q) = omega (arith, n.most j q, f.first)
-    most j k (no q) = let e : j ≡ i = omega arith in rw e f.second
-
-pub northmost_end : (l : List ℕ) (i p : ℕ) → length l ≤ i → NorthmostUpto l i p → Northmost l p
-northmost_end l i p h n = record { listed = n.listed; most = λ j o. n.most j (omega arith) }
 
 -- ---- keeping
 

@@ -3,16 +3,51 @@
 // only those of another, the north-eastern ones; and of these only the keys outside the line to it, or from it.
 #![tactic(auto)]
 
-ghost use Rattle.std.specs.Prelude.{◌≤◌, ◌<◌, length, take, drop};
+ghost use Rattle.std.specs.Prelude.{◌≡◌, ◌≤◌, ◌<◌, true, false, length, take, drop};
 ghost use Rattle.turns.specs.Keys.{Key, AllKeys};
 ghost use Rattle.orders.specs.Order.{get};
 ghost use Rattle.lines.specs.Lines.{LineOf};
-ghost use Rattle.quarters.specs.Quarters.{FurtherNorth, Northmost, KeptIf, Quarter, SortedQuarter};
+ghost use Rattle.quarters.specs.Quarters.{FurtherNorth, Northmost, Outside, Quarter, SortedQuarter};
 ghost use Rattle.quarters.specs.Quarters.{PeakPut, UpperInput, UpperList};
 
 use lines::Line;
 
-// The one of two keys that is further north, or the first.
+// The way from one key to another, and the line that it lies on.
+#[derive(Clone, Copy)]
+struct Way {
+    from: u32,
+    to: u32,
+    line: Line,
+    ghost between_keys: { Key from × Key to × LineOf from to line },
+}
+
+impl Way {
+    // The way from one key to another.
+    fn new(from: u32, to: u32) -> Way
+        requires { Key from × Key to }
+        ensures from { result.from ≡ from }
+        ensures to { result.to ≡ to }
+    {
+        Way {
+            from,
+            to,
+            line: lines::line_through(from, to),
+        }
+    }
+
+    // Whether a key is outside: strictly left of the line, and strictly between the way's two keys in order. Few keys
+    // are, so that the test of the side comes first.
+    fn is_outside(self, key: u32) -> bool
+        requires { Key key }
+        ensures outside { result ≡ true → Outside self.from self.to key }
+        ensures not_outside { result ≡ false → Outside self.from self.to key → ⊥ }
+    {
+        let is_left = 0 < lines::side_of(self.line, key);
+        is_left && self.from < key && key < self.to
+    }
+}
+
+// The one of two keys that is further north, or the first. (`max_by_key` over the list gives an `Option` to unwrap.)
 fn further_north(a: u32, b: u32) -> u32
     ensures { FurtherNorth a b result }
 {
@@ -28,57 +63,35 @@ fn northmost(keys: &[u32]) -> u32
     ensures { Northmost keys.now result }
 {
     let mut peak = keys[0];
-    let mut i: usize = 0;
-    while i < keys.len() {
-        peak = further_north(peak, keys[i]);
-        i += 1;
+    for &key in keys {
+        peak = further_north(peak, key);
     }
     peak
 }
 
-// Writes a key behind the first `count` of out and counts it, if it is outside the line from one key to another:
-// strictly left of it, and strictly between the two in order. Few keys are, so that the test of the side comes first.
-fn keep_if_outside(line: Line, from: u32, to: u32, key: u32, out: &mut [u32], count: usize) -> usize
-    requires { Key from × Key to × LineOf from to line × Key key × (count < length out.old) }
-    ensures { KeptIf from to key out.old count out.new result }
-{
-    if lines::side_of(line, key) <= 0 {
-        return count;
-    }
-    if key <= from {
-        return count;
-    }
-    if to <= key {
-        return count;
-    }
-    out[count] = key;
-    count + 1
-}
-
-// Writes the keys of a list that are outside the line from one key to another to the front of out, and counts them.
-fn keep_outside(keys: &[u32], from: u32, to: u32, out: &mut [u32]) -> usize
-    requires key { Key from × Key to × (length keys.now ≤ length out.old) }
+// Writes the keys of a list that are outside a way to the front of out, and counts them.
+fn keep_outside(keys: &[u32], way: Way, out: &mut [u32]) -> usize
+    requires room { length keys.now ≤ length out.old }
     requires all_keys { AllKeys (get keys.now) (length keys.now) }
-    ensures { Quarter keys.now from to out.new result }
+    ensures { Quarter keys.now way.from way.to out.new result }
 {
-    let line = lines::line_through(from, to);
     let mut count: usize = 0;
-    let mut i: usize = 0;
-    while i < keys.len() {
-        count = keep_if_outside(line, from, to, keys[i], out, count);
-        i += 1;
+    for &key in keys {
+        if way.is_outside(key) {
+            out[count] = key;
+            count += 1;
+        }
     }
     count
 }
 
 // The same in order. What scratch holds is lost.
-fn sort_outside(keys: &[u32], from: u32, to: u32, out: &mut [u32], scratch: &mut [u32]) -> usize
-    requires key { Key from × Key to × (length keys.now ≤ length out.old) ×
-        (length keys.now ≤ length scratch.old) }
+fn sort_outside(keys: &[u32], way: Way, out: &mut [u32], scratch: &mut [u32]) -> usize
+    requires room { (length keys.now ≤ length out.old) × (length keys.now ≤ length scratch.old) }
     requires all_keys { AllKeys (get keys.now) (length keys.now) }
-    ensures { SortedQuarter keys.now from to out.new result }
+    ensures { SortedQuarter keys.now way.from way.to out.new result }
 {
-    let count = keep_outside(keys, from, to, out);
+    let count = keep_outside(keys, way, out);
     sorting::sort_keys(&mut out[..count], scratch);
     count
 }
@@ -115,7 +128,7 @@ pub fn upper_list(
         out.new result }
 {
     let peak = northmost(&keys[..n]);
-    let before = sort_outside(&keys[..n], first, peak, out, scratch);
+    let before = sort_outside(&keys[..n], Way::new(first, peak), out, scratch);
     let at = put_peak(first, peak, last, out, before);
-    at + sort_outside(&keys[n..], peak, last, &mut out[at..], scratch)
+    at + sort_outside(&keys[n..], Way::new(peak, last), &mut out[at..], scratch)
 }
