@@ -1,14 +1,13 @@
 -- Records that are copied one after another into an array of 4,096 numbers: the array then begins with the flat list of their edges. Assumes nothing.
 use mathlib.Core.Path.{◌≡◌, refl, sym, ◌∙◌, ap}
-use mathlib.Core.Logic.{◌⊎◌, inl, inr, ⊎_elim}
 use mathlib.Core.List.{List, [], ◌∷◌, ◌++◌, append-nil, append_assoc}
-use Prim.Native.Nat.{ℕ, zero, suc, ◌+◌, ◌*◌, ◌≤◌, ◌<◌, zero-le, suc-le-suc}
+use Prim.Native.Nat.{ℕ, ◌+◌, ◌*◌, ◌≤◌, ◌<◌, zero-le}
 use native.Mathlib.Numerals.{add-one}
 use native.Mathlib.Omega.{arith}
 use lib.IntN.{ℤ, pos}
 use lib.ListN.{length, get_or, take, drop, replicate, length-append, length-replicate, drop_of_length-le}
 use lib.Seq.{sets, sets-eq, length-sets, length-take-le, take_at, drop-cons}
-use Rattle.records.specs.Records.{edges_of, CopyCount, Holds}
+use Rattle.records.specs.Records.{edges_of}
 use Rattle.rounds.specs.declared.Box.{Box}
 
 -- four numbers for each record
@@ -23,21 +22,6 @@ no_box = record { west = pos 0; south = pos 0; east = pos 0; north = pos 0 }
 -- the array with the edges of b at place i
 abbrev pub box_put : List ℤ → ℕ → Box → List ℤ
 box_put xs i b = sets xs (i * 4) (edges_of (b ∷ []))
-
--- an index is below a number, or is not
-pub lt_or_le : (i n : ℕ) → (i < n) ⊎ (n ≤ i)
-lt_or_le zero zero = inr zero-le
-lt_or_le zero (suc n) = inl (suc-le-suc zero-le)
-lt_or_le (suc i) zero = inr zero-le
-lt_or_le (suc i) (suc n) = ⊎_elim (λ p. inl (suc-le-suc p)) (λ p. inr (suc-le-suc p)) (lt_or_le i n)
-
--- a record that is copied is one of the list, and of the first 1,024
-pub copied_within : (n k i : ℕ) → CopyCount n k → i < k → (i < n) × (i < 1024)
-copied_within n k i c l =
-    ⊎_elim
-    (λ many. let e : k ≡ 0 = c.none many in absurd (omega arith))
-    (λ few. let e : k ≡ n = c.all few in (omega arith, omega arith))
-    (lt_or_le 1024 n)
 
 -- ---- the loop
 
@@ -73,11 +57,7 @@ module _ (bs : List Box) (i : ℕ) (xs : List ℤ) (h : Copied bs i xs) (l : i <
       }
 
 -- no record is left
-pub ends : (bs : List Box) (count i : ℕ) (xs : List ℤ) → CopyCount (length bs) count → Copied bs i xs → count ≤ i → Holds (edges_of bs) xs
-ends bs count i xs k h l =
-    record {
-      front = λ r.
-          let e : count ≡ length bs = k.all (omega (arith, edges_length bs)) in
-          let n : length (edges_of bs) ≡ i * 4 = omega (arith, edges_length bs, h.within) in
-          rw n (sym (append-nil (take (i * 4) xs)) ∙ ap (λ (ys : List Box). take (i * 4) xs ++ edges_of ys) (sym (drop_of_length-le bs {i = i} (omega arith))) ∙ h.so_far);
-    }
+pub ends : (bs : List Box) (i : ℕ) (xs : List ℤ) → Copied bs i xs → length bs ≤ i → take (length bs * 4) xs ≡ edges_of bs
+ends bs i xs h l =
+    let n : length bs ≡ i = omega (arith, h.within) in
+    rw n (sym (append-nil (take (i * 4) xs)) ∙ ap (λ (ys : List Box). take (i * 4) xs ++ edges_of ys) (sym (drop_of_length-le bs {i = i} l)) ∙ h.so_far)

@@ -8,6 +8,8 @@ use borrow.Author.Tests.{lt-ltb, eq-eqb, ne_eqb}
 use lib.Dec.{eqb, ltb}
 use lib.IntN.{ℤ}
 use lib.ListN.{length}
+use Rattle.std.specs.Prelude.{Result}
+use Rattle.rounds.specs.declared.Refusal.{Refusal}
 use Rattle.plane.specs.declared.Point.{Point}
 use Rattle.rounds.specs.Boxes.{boxes_of}
 use Rattle.rounds.specs.declared.Box.{Box}
@@ -83,7 +85,7 @@ never_length bs plug =
     (not_when Cause.PlugBeyond 1 (beyond plug.east || beyond plug.north) (λ e. omega arith))
 
 -- so no verdict on records is a refusal by 1
-pub never_refused : (bs : List Box) (plug : Point) (v : Verdict) (place : ℕ) → VerdictIs (edges_of bs) plug v → verdict_reply v ≡ refused 1 place → ⊥
+pub never_refused : (bs : List Box) (plug : Point) (v : Result Verdict Refusal) (place : ℕ) → VerdictIs (edges_of bs) plug v → verdict_reply v ≡ refused 1 place → ⊥
 never_refused bs plug v place h e = go (verdict_fault (edges_of bs) plug) (never_length bs plug) (sym h.reply ∙ e)
   where
     go : (f : Fault) → NotLength f → reply_under f (word_of (boxes_of (edges_of bs)) plug) ≡ refused 1 place → ⊥
