@@ -6,13 +6,15 @@ use mathlib.Core.List.{List, []}
 use Prim.Native.Nat.{ℕ, zero, suc, ◌-◌, ◌+◌}
 use native.Mathlib.Omega.{arith}
 use lib.ListN.{length}
+use Rattle.std.specs.Prelude.{Result, Ok, Err}
 use Rattle.rounds.specs.Refusals.{Fault, none, fault, ◌or_else◌}
+use Rattle.rounds.specs.declared.Refusal.{Refusal}
 use Rattle.formats.specs.Format.{Kind, box_kind, plug_kind, note_kind, end_kind, unknown_kind, kind_at, next_at, mark_length}
 use Rattle.formats.specs.Content.{Content, stops_before, kind_fault, form_fault, and_then, plugged_by, read_from}
 use Rattle.formats.proofs.Scan.{scan, clean}
 use Rattle.file_records.specs.Records.{refused_or, kind_record, record_at}
 use Rattle.file_records.specs.declared.Record.{Record}
-use Rattle.file_records.specs.declared.Record.TheVariants.{Box, Plug, Note, End, Refused}
+use Rattle.file_records.specs.declared.Record.TheVariants.{Box, Plug, Note, End}
 use Rattle.file_records.proofs.Records.{RecordFound, follow, rest_is}
 use Rattle.file_passes.specs.Steps.{ahead}
 
@@ -59,12 +61,12 @@ no_box_lem file at e = no_box_from (suc (length file - at)) file at e
 -- ---- the first plug, or the end
 
 -- where the boxes stop
-abbrev pub Stops : Record → Type 0
-Stops (Box next) = ⊥
-Stops (Plug next) = Unit
-Stops (Note next) = ⊥
-Stops End = Unit
-Stops (Refused r) = ⊥
+abbrev pub Stops : Result Record Refusal → Type 0
+Stops (Ok (Box next)) = ⊥
+Stops (Ok (Plug next)) = Unit
+Stops (Ok (Note next)) = ⊥
+Stops (Ok End) = Unit
+Stops (Err r) = ⊥
 
 no_stop : {A : Type 0} (f : Fault) (next : ℕ) → Stops (refused_or f (Box next)) → A
 no_stop none next s = absurd s
@@ -80,19 +82,19 @@ same_record f note_kind file at next s = refl
 same_record f end_kind file at next s = refl
 same_record f unknown_kind file at next s = refl
 
-same_found : {file : List ℕ} {at : ℕ} (r : Record) → Stops r → RecordFound file at false r → RecordFound file at true r
+same_found : {file : List ℕ} {at : ℕ} (r : Result Record Refusal) → Stops r → RecordFound file at false r → RecordFound file at true r
 unfolding record_at form_fault
 same_found {file} {at} r s f =
     let k = kind_at file at in
     record { is = same_record (stops_before (at + mark_length) file at) k file at (next_at k file at) (rw f.is s) ∙ f.is }
 
-same_follow : (file : List ℕ) (at : ℕ) (r : Record) → Stops r → follow file at false r ≡ follow file at true r
-same_follow file at (Box next) s = absurd s
-same_follow file at (Plug next) s = refl
-same_follow file at (Note next) s = absurd s
-same_follow file at End s = refl
-same_follow file at (Refused r) s = absurd s
+same_follow : (file : List ℕ) (at : ℕ) (r : Result Record Refusal) → Stops r → follow file at false r ≡ follow file at true r
+same_follow file at (Ok (Box next)) s = absurd s
+same_follow file at (Ok (Plug next)) s = refl
+same_follow file at (Ok (Note next)) s = absurd s
+same_follow file at (Ok End) s = refl
+same_follow file at (Err r) s = absurd s
 
 -- so what stands from there on is the same
-pub same_ahead : {file : List ℕ} {at : ℕ} (r : Record) → Stops r → RecordFound file at false r → scan file at false ≡ scan file at true
+pub same_ahead : {file : List ℕ} {at : ℕ} (r : Result Record Refusal) → Stops r → RecordFound file at false r → scan file at false ≡ scan file at true
 same_ahead {file} {at} r s f = rest_is f ∙ same_follow file at r s ∙ sym (rest_is (same_found r s f))

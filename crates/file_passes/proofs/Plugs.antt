@@ -7,6 +7,7 @@ use native.Mathlib.Omega.{arith}
 use lib.IntN.{ℤ}
 use lib.ListN.{length, take, drop, length-append}
 use lib.Seq.{take_at, drop_at}
+use Rattle.std.specs.Prelude.{Ok, Err}
 use Rattle.plane.specs.declared.Point.{Point}
 use Rattle.rounds.specs.Refusals.{none}
 use Rattle.rounds.specs.declared.Refusal.{Refusal}
@@ -14,7 +15,7 @@ use Rattle.formats.specs.Format.{mark_length, file_plug_at}
 use Rattle.formats.specs.Content.{Content}
 use Rattle.formats.specs.Promises.{coordinates}
 use Rattle.file_records.specs.Records.{over}
-use Rattle.file_records.specs.declared.Record.TheVariants.{Box, Plug, Note, End, Refused}
+use Rattle.file_records.specs.declared.Record.TheVariants.{Box, Plug, Note, End}
 use Rattle.file_records.proofs.Over.{WroteAt, wrote_none, then_over}
 use Rattle.formats.proofs.Bytes.{length_flat}
 use Rattle.formats.proofs.Scan.{scan}
@@ -50,7 +51,7 @@ module _ {file : List ℕ} {from count : ℕ} {plugs₀ : List ℤ} (r : PlugRoo
 
   module _ {at k : ℕ} {plugs : List ℤ} (i : PlugsSofar file from plugs₀ (scan file at true) k plugs) where
     -- a plug, a note, a box
-    pub plugs_plug : {next : ℕ} {plugs' : List ℤ} → k < count → RecordFound file at true (Plug next) → plugs' ≡ over plugs (k * 2) (coordinates (file_plug_at file (at + mark_length)))
+    pub plugs_plug : {next : ℕ} {plugs' : List ℤ} → k < count → RecordFound file at true (Ok (Plug next)) → plugs' ≡ over plugs (k * 2) (coordinates (file_plug_at file (at + mark_length)))
         → PlugsSofar file from plugs₀ (scan file next true) (k + 1) plugs'
     plugs_plug {next} h f e =
         let p = file_plug_at file (at + mark_length) in
@@ -64,18 +65,18 @@ module _ {file : List ℕ} {from count : ℕ} {plugs₀ : List ℤ} (r : PlugRoo
           wrote = rw (flat_more i.taken p) (then_over i.wrote (k * 2) (coordinates p) (omega (arith, l, i.so_many)) (omega (arith, r.for_plugs)) e);
         }
 
-    pub plugs_note : {next : ℕ} → RecordFound file at true (Note next) → PlugsSofar file from plugs₀ (scan file next true) k plugs
+    pub plugs_note : {next : ℕ} → RecordFound file at true (Ok (Note next)) → PlugsSofar file from plugs₀ (scan file next true) k plugs
     plugs_note f = passed_by i (ap (λ held. held.fault) (rest_is f)) (ap (λ held. held.plugs) (rest_is f))
 
-    pub plugs_box : {next : ℕ} → RecordFound file at true (Box next) → PlugsSofar file from plugs₀ (scan file next true) k plugs
+    pub plugs_box : {next : ℕ} → RecordFound file at true (Ok (Box next)) → PlugsSofar file from plugs₀ (scan file next true) k plugs
     plugs_box f = passed_by i (ap (λ held. held.fault) (rest_is f)) (ap (λ held. held.plugs) (rest_is f))
 
     -- there is no end before so many plugs, and no fault
-    pub no_end : {A : Type 0} → k < count → RecordFound file at true End → A
+    pub no_end : {A : Type 0} → k < count → RecordFound file at true (Ok End) → A
     no_end h f =
         absurd (omega (arith, r.enough, ap length i.is, length-append i.taken (scan file at true).plugs, i.so_many, ap (λ held. length held.plugs) (rest_is f)))
 
-    pub no_fault : {A : Type 0} {x : Refusal} → RecordFound file at true (Refused x) → A
+    pub no_fault : {A : Type 0} {x : Refusal} → RecordFound file at true (Err x) → A
     no_fault f = let e = (rw (rest_is f) at i).well_formed in let z : ◌≡◌ {A = ℕ} 0 1 = cc in absurd (omega arith)
 
     -- so many

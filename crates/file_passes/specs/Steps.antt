@@ -1,25 +1,19 @@
 -- What the passes over a file find and leave. Definitions only.
-use Rattle.std.specs.Prelude.{ℕ, suc, ◌-◌, ◌*◌, ◌≤◌, true, ◌≡◌, ℤ, length, take, drop}
+use Rattle.std.specs.Prelude.{Result, ℕ, suc, ◌-◌, ◌*◌, ◌≤◌, true, ◌≡◌, ℤ, length, take, drop}
 use mathlib.Core.List.{List, flat_map}
 use Rattle.plane.specs.declared.Point.{Point}
-use Rattle.rounds.specs.Refusals.{Fault, none, fault}
+use Rattle.rounds.specs.Refusals.{none}
+use Rattle.rounds.specs.declared.Refusal.{Refusal}
 use Rattle.formats.specs.Content.{Content, read_from, content_of}
 use Rattle.formats.specs.Promises.{edges, coordinates, counts_of}
 use Rattle.formats.specs.declared.Counts.{Counts}
-use Rattle.formats.specs.declared.Reading.{Reading}
-use Rattle.formats.specs.declared.Reading.TheVariants as Reading'
-use Rattle.file_records.specs.Records.{over}
+use Rattle.file_records.specs.Records.{refused_or, over}
 
 -- ---- the pass that judges
 
--- an answer under a fault of form, and under none
-abbrev pub reading_under : Fault → Counts → Reading
-reading_under (fault cause place) counts = Reading'.Refused (record { cause = cause; place = place })
-reading_under none counts = Reading'.Read counts
-
--- what the pass that judges says of a file
-unfoldable pub judgement : List ℕ → Reading
-judgement file = reading_under (content_of file).fault (counts_of (content_of file))
+-- what the pass that judges says of a file: its fault of form, or both counts
+unfoldable pub judgement : List ℕ → Result Counts Refusal
+judgement file = refused_or (content_of file).fault (counts_of (content_of file))
 
 -- ---- the passes that read
 

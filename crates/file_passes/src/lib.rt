@@ -7,18 +7,18 @@ ghost use Rattle.formats.specs.Content.{content_of};
 ghost use Rattle.file_passes.specs.Steps.{judgement, BoxRoom, BoxesRead, PlugRoom, PlugsRead};
 
 use file_records::{MARK_LENGTH, Record};
-use formats::{Counts, Reading};
+use formats::Counts;
+use rounds::Refusal;
 
 // Judges the form of a file and counts its boxes and plugs.
-pub fn judge_form(file: &[u8]) -> Reading
+pub fn judge_form(file: &[u8]) -> Result<Counts, Refusal>
     ensures { result ≡ judgement file.now }
 {
     let mut at: usize = 0;
     let mut boxes: usize = 0;
     let mut plugs: usize = 0;
     loop {
-        let found = file_records::next_record(file, at, 0 < plugs);
-        match found {
+        match file_records::next_record(file, at, 0 < plugs)? {
             Record::Box(next) => {
                 boxes += 1;
                 at = next;
@@ -27,15 +27,8 @@ pub fn judge_form(file: &[u8]) -> Reading
                 plugs += 1;
                 at = next;
             }
-            Record::Note(next) => {
-                at = next;
-            }
-            Record::End => {
-                return Reading::Read(Counts { boxes, plugs });
-            }
-            Record::Refused(refusal) => {
-                return Reading::Refused(refusal);
-            }
+            Record::Note(next) => at = next,
+            Record::End => return Ok(Counts { boxes, plugs }),
         }
     }
 }
@@ -49,25 +42,16 @@ pub fn read_boxes(file: &[u8], boxes: &mut [i32]) -> usize
     let mut at: usize = 0;
     let mut edge: usize = 0;
     loop {
-        let found = file_records::next_record(file, at, false);
-        match found {
-            Record::Box(next) => {
+        match file_records::next_record(file, at, false) {
+            Ok(Record::Box(next)) => {
                 file_records::put_box(file, at + MARK_LENGTH, boxes, edge);
                 edge += 4;
                 at = next;
             }
-            Record::Note(next) => {
-                at = next;
-            }
-            Record::Plug(_) => {
-                return at;
-            }
-            Record::End => {
-                return at;
-            }
-            Record::Refused(_) => {
-                return at;
-            }
+            Ok(Record::Note(next)) => at = next,
+            Ok(Record::Plug(_)) => return at,
+            Ok(Record::End) => return at,
+            Err(_) => return at,
         }
     }
 }
@@ -81,25 +65,16 @@ pub fn read_plugs(file: &[u8], from: usize, count: usize, plugs: &mut [i32]) -> 
     let mut at = from;
     let mut k: usize = 0;
     while k < count {
-        let found = file_records::next_record(file, at, true);
-        match found {
-            Record::Plug(next) => {
+        match file_records::next_record(file, at, true) {
+            Ok(Record::Plug(next)) => {
                 file_records::put_plug(file, at + MARK_LENGTH, plugs, k * 2);
                 k += 1;
                 at = next;
             }
-            Record::Note(next) => {
-                at = next;
-            }
-            Record::Box(next) => {
-                at = next;
-            }
-            Record::End => {
-                return at;
-            }
-            Record::Refused(_) => {
-                return at;
-            }
+            Ok(Record::Note(next)) => at = next,
+            Ok(Record::Box(next)) => at = next,
+            Ok(Record::End) => return at,
+            Err(_) => return at,
         }
     }
     at

@@ -101,6 +101,9 @@ module _ {file : List ℕ} {at : ℕ} {plugged : Bool} where
   pub found : {answer r : Record} → Ok answer ≡ record_at file at plugged → answer ≡ r → RecordFound file at plugged (Ok r)
   found e m = record { is = sym e ∙ ap Ok m }
 
+  pub not_found : {refusal : Refusal} → Err refusal ≡ record_at file at plugged → RecordFound file at plugged (Err refusal)
+  not_found e = record { is = sym e }
+
 module _ {file : List ℕ} {at : ℕ} {plugged : Bool} {r : Result Record Refusal} where
   pub rest_is : RecordFound file at plugged r → scan file at plugged ≡ follow file at plugged r
   rest_is f = unroll file at plugged ∙ ap (follow file at plugged) f.is
