@@ -4,6 +4,8 @@ use mathlib.Core.List.{List}
 use lib.IntN.{ℤ}
 use Rattle.plane.specs.declared.Point.{Point}
 use Rattle.verdicts.specs.Answers.{word_only}
+use Rattle.std.specs.Prelude.{Result}
+use Rattle.rounds.specs.declared.Refusal.{Refusal}
 use Rattle.verdicts.specs.declared.Verdict.{Verdict}
 use Rattle.records.specs.Records.{edges_of}
 use Rattle.c_verdicts.specs.Verdicts.{verdict_struct, verdict_meant, word_struct}
@@ -11,7 +13,7 @@ use Rattle.c_verdicts.specs.declared.VerdictAnswer.{VerdictAnswer}
 use Rattle.c_verdicts.proofs.Verdicts.{verdict_back}
 use Rattle.demands.specs.Answers.{GivesVerdict, GivesStruct, StructOf, EqualAnswers}
 
-struct_of : (boxes : List ℤ) (plug : Point) (v : Verdict) (s : VerdictAnswer) → GivesVerdict boxes plug v → GivesStruct boxes plug s → StructOf s v
+struct_of : (boxes : List ℤ) (plug : Point) (v : Result Verdict Refusal) (s : VerdictAnswer) → GivesVerdict boxes plug v → GivesStruct boxes plug s → StructOf s v
 struct_of boxes plug v s h k =
     let e : s ≡ verdict_struct v = k.1 ∙ ap verdict_struct (sym h.1) in
     record { numbers = e; means = ap verdict_meant e ∙ verdict_back v }

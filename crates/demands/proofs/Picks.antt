@@ -11,7 +11,7 @@ use Rattle.plane.specs.Members.{All}
 use Rattle.rounds.specs.Boxes.{Ordered, boxes_of}
 use Rattle.rounds.specs.Reasons.{Reasoned}
 use Rattle.rounds.specs.Refusals.{Fault, when, beyond, input_fault, plug_fault}
-use Rattle.rounds.specs.Replies.{result, reply_under}
+use Rattle.rounds.specs.Replies.{result, reply_of, reply_under}
 use Rattle.rounds.specs.Words.{Means, word_of}
 use Rattle.rounds.specs.declared.Box.{Box}
 use Rattle.rounds.specs.declared.Cause.TheVariants.{PlugBeyond}
@@ -22,11 +22,11 @@ use Rattle.rounds.proofs.Accepted.{or_else_none, accepted}
 use Rattle.rounds.proofs.Corners.{corner_pick, reason_supported}
 use Rattle.rounds.proofs.Entries.{mean_pick, mean_pick_chosen, second_succeeds}
 use Rattle.rounds.proofs.Total.{exactly}
-use Rattle.verdicts.specs.Verdicts.{verdict_reply, word_reply, verdict_on, VerdictIs}
+use Rattle.std.specs.Prelude.{Result, Ok, Err}
+use Rattle.rounds.specs.declared.Refusal.{Refusal}
+use Rattle.verdicts.specs.Verdicts.{verdict_reply, verdict_on, VerdictIs}
 use Rattle.verdicts.specs.declared.Verdict.{Verdict}
 use Rattle.verdicts.specs.declared.Verdict.TheVariants as Verdict'
-use Rattle.verdicts.specs.declared.WordReply.{WordReply}
-use Rattle.verdicts.specs.declared.WordReply.TheVariants as WordReply'
 use Rattle.records.specs.Records.{edges_of}
 use Rattle.formats.specs.Content.{content_of}
 use Rattle.formats.specs.Promises.{edges}
@@ -45,19 +45,19 @@ word_holds bs p os = record { exactly = λ other. (λ e. (exactly bs p os other)
 -- ---- a verdict
 
 module _ (bs : List Box) (p : Point) (os : All Ordered bs) where
-  is_inside : (v : Verdict) → verdict_reply v ≡ result Inside → v ≡ Verdict'.Inside
-  is_inside Verdict'.Inside i = refl
-  is_inside Verdict'.Outside i = absurd (let z : ◌≡◌ {A = ℕ} 0 1 = cc in omega arith)
-  is_inside (Verdict'.Undecided r) i = absurd (let z : ◌≡◌ {A = ℕ} 0 1 = cc in omega arith)
-  is_inside (Verdict'.Refused r) i = absurd (let z : ◌≡◌ {A = ℕ} 0 1 = cc in omega arith)
+  is_inside : (v : Result Verdict Refusal) → verdict_reply v ≡ result Inside → v ≡ Ok Verdict'.Inside
+  is_inside (Ok Verdict'.Inside) i = refl
+  is_inside (Ok Verdict'.Outside) i = absurd (let z : ◌≡◌ {A = ℕ} 0 1 = cc in omega arith)
+  is_inside (Ok (Verdict'.Undecided r)) i = absurd (let z : ◌≡◌ {A = ℕ} 0 1 = cc in omega arith)
+  is_inside (Err r) i = absurd (let z : ◌≡◌ {A = ℕ} 0 1 = cc in omega arith)
 
-  is_outside : (v : Verdict) → verdict_reply v ≡ result Outside → v ≡ Verdict'.Outside
-  is_outside Verdict'.Inside i = absurd (let z : ◌≡◌ {A = ℕ} 0 1 = cc in omega arith)
-  is_outside Verdict'.Outside i = refl
-  is_outside (Verdict'.Undecided r) i = absurd (let z : ◌≡◌ {A = ℕ} 0 1 = cc in omega arith)
-  is_outside (Verdict'.Refused r) i = absurd (let z : ◌≡◌ {A = ℕ} 0 1 = cc in omega arith)
+  is_outside : (v : Result Verdict Refusal) → verdict_reply v ≡ result Outside → v ≡ Ok Verdict'.Outside
+  is_outside (Ok Verdict'.Inside) i = absurd (let z : ◌≡◌ {A = ℕ} 0 1 = cc in omega arith)
+  is_outside (Ok Verdict'.Outside) i = refl
+  is_outside (Ok (Verdict'.Undecided r)) i = absurd (let z : ◌≡◌ {A = ℕ} 0 1 = cc in omega arith)
+  is_outside (Err r) i = absurd (let z : ◌≡◌ {A = ℕ} 0 1 = cc in omega arith)
 
-  module _ (v : Verdict) (reply : verdict_reply v ≡ result (word_of bs p)) (reasons : (r : Reasons) → v ≡ Verdict'.Undecided r → Reasoned bs p r) where
+  module _ (v : Result Verdict Refusal) (reply : verdict_reply v ≡ result (word_of bs p)) (reasons : (r : Reasons) → v ≡ Ok (Verdict'.Undecided r) → Reasoned bs p r) where
     -- the word that a case of the verdict replies
     told : {w : Word} → verdict_reply v ≡ result w → Means bs p w
     told {w} i = (exactly bs p os w).1 (result_inj (sym i ∙ reply))
@@ -75,26 +75,26 @@ module _ (bs : List Box) (p : Point) (os : All Ordered bs) where
           second_pick = λ r i. (mean_pick os (entries_of r), mean_pick_chosen os (entries_of r), second_succeeds p os (entries_of r) (reasons r i).second_driver.reason);
         }
       where
-        undecided : (v : Verdict) → (v ≡ Verdict'.Inside → ⊥) → (v ≡ Verdict'.Outside → ⊥) → verdict_reply v ≡ result (word_of bs p)
-            → ((r : Reasons) → v ≡ Verdict'.Undecided r → Reasoned bs p r) → (r : Reasons) × (v ≡ Verdict'.Undecided r) × Reasoned bs p r
-        undecided Verdict'.Inside i o q f = absurd (i refl)
-        undecided Verdict'.Outside i o q f = absurd (o refl)
-        undecided (Verdict'.Undecided r) i o q f = (r, refl, f r refl)
-        undecided (Verdict'.Refused r) i o q f = absurd (let z : ◌≡◌ {A = ℕ} 0 1 = cc in omega arith)
+        undecided : (v : Result Verdict Refusal) → (v ≡ Ok Verdict'.Inside → ⊥) → (v ≡ Ok Verdict'.Outside → ⊥) → verdict_reply v ≡ result (word_of bs p)
+            → ((r : Reasons) → v ≡ Ok (Verdict'.Undecided r) → Reasoned bs p r) → (r : Reasons) × (v ≡ Ok (Verdict'.Undecided r)) × Reasoned bs p r
+        undecided (Ok Verdict'.Inside) i o q f = absurd (i refl)
+        undecided (Ok Verdict'.Outside) i o q f = absurd (o refl)
+        undecided (Ok (Verdict'.Undecided r)) i o q f = (r, refl, f r refl)
+        undecided (Err r) i o q f = absurd (let z : ◌≡◌ {A = ℕ} 0 1 = cc in omega arith)
 
 -- the reply on accepted boxes and a plug
 given : (l : List ℤ) (p : Point) → NoFault l p → verdict_on l p ≡ result (word_of (boxes_of l) p)
 given l p e = ap (λ f. reply_under f (word_of (boxes_of l) p)) e
 
-of_verdict : (l : List ℤ) (p : Point) (v : Verdict) → VerdictIs l p v → NoFault l p → VerdictHolds (boxes_of l) p v
+of_verdict : (l : List ℤ) (p : Point) (v : Result Verdict Refusal) → VerdictIs l p v → NoFault l p → VerdictHolds (boxes_of l) p v
 of_verdict l p v h e = verdict_holds (boxes_of l) p (ordered_boxes l p e) v (h.reply ∙ given l p e) h.reasons
 
-of_word : (l : List ℤ) (p : Point) (reply : WordReply) → word_reply reply ≡ verdict_on l p → NoFault l p → (w : Word) × (reply ≡ WordReply'.Given w) × WordHolds (boxes_of l) p w
+of_word : (l : List ℤ) (p : Point) (reply : Result Word Refusal) → reply_of reply ≡ verdict_on l p → NoFault l p → (w : Word) × (reply ≡ Ok w) × WordHolds (boxes_of l) p w
 of_word l p reply h e = go reply (h ∙ given l p e)
   where
-    go : (reply : WordReply) → word_reply reply ≡ result (word_of (boxes_of l) p) → (w : Word) × (reply ≡ WordReply'.Given w) × WordHolds (boxes_of l) p w
-    go (WordReply'.Given w) i = (word_of (boxes_of l) p, ap WordReply'.Given (result_inj i), word_holds (boxes_of l) p (ordered_boxes l p e))
-    go (WordReply'.Refused r) i = absurd (let z : ◌≡◌ {A = ℕ} 0 1 = cc in omega arith)
+    go : (reply : Result Word Refusal) → reply_of reply ≡ result (word_of (boxes_of l) p) → (w : Word) × (reply ≡ Ok w) × WordHolds (boxes_of l) p w
+    go (Ok w) i = (word_of (boxes_of l) p, ap Ok (result_inj i), word_holds (boxes_of l) p (ordered_boxes l p e))
+    go (Err r) i = absurd (let z : ◌≡◌ {A = ℕ} 0 1 = cc in omega arith)
 
 -- ---- records
 
@@ -102,7 +102,7 @@ pub boxes_of_edges : (bs : List Box) → boxes_of (edges_of bs) ≡ bs
 boxes_of_edges [] = refl
 boxes_of_edges (b ∷ bs) = ap (λ l. b ∷ l) (boxes_of_edges bs)
 
-of_records : (bs : List Box) (p : Point) (v : Verdict) → VerdictIs (edges_of bs) p v → NoFault (edges_of bs) p → VerdictHolds bs p v
+of_records : (bs : List Box) (p : Point) (v : Result Verdict Refusal) → VerdictIs (edges_of bs) p v → NoFault (edges_of bs) p → VerdictHolds bs p v
 of_records bs p v h e = subst (λ l. VerdictHolds l p v) (boxes_of_edges bs) (of_verdict (edges_of bs) p v h e)
 
 -- ---- printed lines

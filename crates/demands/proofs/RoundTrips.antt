@@ -11,12 +11,11 @@ use Rattle.rounds.specs.Boxes.{boxes_of, plugs_of}
 use Rattle.rounds.specs.Refusals.{none, box_list_fault, plug_list_fault, buffer_fault, read_fault, write_fault}
 use Rattle.formats.specs.Format.{file_of, AllBytes}
 use Rattle.formats.specs.Content.{content_of}
-use Rattle.rounds.specs.Replies.{result, buffer_under}
-use Rattle.formats.specs.Promises.{reading_reply, edges, coordinates, reader_fault, RoundRead, writer_fault, RoundWritten}
+use Rattle.rounds.specs.Replies.{result, reply_of, buffer_under}
+use Rattle.formats.specs.Promises.{edges, coordinates, reader_fault, RoundRead, writer_fault, RoundWritten}
 use Rattle.formats.specs.declared.Counts.{Counts}
-use Rattle.formats.specs.declared.Reading.{Reading}
-use Rattle.formats.specs.declared.Reading.TheVariants.{Read, Refused}
-use Rattle.formats.specs.declared.Writing.TheVariants.{Written}
+use Rattle.std.specs.Prelude.{Result, Ok, Err}
+use Rattle.rounds.specs.declared.Refusal.{Refusal}
 use Rattle.rounds.proofs.Rows.{boxes_length}
 use Rattle.rounds.proofs.Accepted.{or_else_none, accepted}
 use Rattle.formats.proofs.Faults.{whole_plugs, fit_boxes, fit_plugs}
@@ -36,7 +35,7 @@ record WasWritten (boxes plugs : List ℤ) (entry : List ℕ) (n : ℕ) (exit : 
   count : n ≡ length (file_of (boxes_of boxes) (plugs_of plugs))
   file : exit ≡ file_of (boxes_of boxes) (plugs_of plugs) ++ drop n entry
 
-was_written : {boxes plugs : List ℤ} {entry : List ℕ} {n : ℕ} {exit : List ℕ} → RoundWritten boxes plugs entry (Written n) exit → WasWritten boxes plugs entry n exit
+was_written : {boxes plugs : List ℤ} {entry : List ℕ} {n : ℕ} {exit : List ℕ} → RoundWritten boxes plugs entry (Ok n) exit → WasWritten boxes plugs entry n exit
 unfolding writer_fault write_fault
 was_written {boxes} {plugs} {entry} {n} w =
     let r = result_none (writer_fault boxes plugs entry) w.reply in
@@ -53,12 +52,12 @@ was_written {boxes} {plugs} {entry} {n} w =
 -- ---- the first theorem
 
 -- a reading by its reply
-reading_is : (reading : Reading) {counts : Counts} → reading_reply reading ≡ result counts → reading ≡ Read counts
-reading_is (Read c) e = cc
-reading_is (Refused r) e = let z : ◌≡◌ {A = ℕ} 0 1 = cc in absurd (omega arith)
+reading_is : (reading : Result Counts Refusal) {counts : Counts} → reply_of reading ≡ result counts → reading ≡ Ok counts
+reading_is (Ok c) e = cc
+reading_is (Err r) e = let z : ◌≡◌ {A = ℕ} 0 1 = cc in absurd (omega arith)
 
-written_read : {boxes plugs : List ℤ} {entry exit : List ℕ} {n : ℕ} {boxesEntry plugsEntry boxesExit plugsExit : List ℤ} {reading : Reading}
-    → RoundWritten boxes plugs entry (Written n) exit → RoundRead (take n exit) boxesEntry plugsEntry reading boxesExit plugsExit
+written_read : {boxes plugs : List ℤ} {entry exit : List ℕ} {n : ℕ} {boxesEntry plugsEntry boxesExit plugsExit : List ℤ} {reading : Result Counts Refusal}
+    → RoundWritten boxes plugs entry (Ok n) exit → RoundRead (take n exit) boxesEntry plugsEntry reading boxesExit plugsExit
     → length boxes ≤ length boxesEntry → length plugs ≤ length plugsEntry
     → ReadBack boxes plugs boxesEntry plugsEntry reading boxesExit plugsExit
 unfolding reader_fault read_fault buffer_fault
@@ -82,8 +81,8 @@ written_read {boxes} {plugs} {entry} {exit} {n} {boxesEntry} {plugsEntry} {readi
 
 read_written : {file : List ℕ} {boxesEntry plugsEntry boxesExit plugsExit : List ℤ} {counts : Counts} {entry exit : List ℕ} {n : ℕ}
     → AllBytes file → (content_of file).notes ≡ 0
-    → RoundRead file boxesEntry plugsEntry (Read counts) boxesExit plugsExit
-    → RoundWritten (take (4 * counts.boxes) boxesExit) (take (2 * counts.plugs) plugsExit) entry (Written n) exit
+    → RoundRead file boxesEntry plugsEntry (Ok counts) boxesExit plugsExit
+    → RoundWritten (take (4 * counts.boxes) boxesExit) (take (2 * counts.plugs) plugsExit) entry (Ok n) exit
     → WrittenBack file entry n exit
 unfolding reader_fault read_fault
 read_written {file} {boxesEntry} {plugsEntry} {boxesExit} {plugsExit} {counts} {entry} {exit} {n} b z r w =

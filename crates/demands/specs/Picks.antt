@@ -1,5 +1,5 @@
 -- The third demand, of every call that gives a word: what a verdict and a word say of every pick, and the picks that reasons describe. Definitions only.
-use Rattle.std.specs.Prelude.{ℕ, ◌+◌, ◌↔◌, ◌≡◌, List, [], ◌∷◌, ◌++◌, ℤ, length}
+use Rattle.std.specs.Prelude.{Result, Ok, ℕ, ◌+◌, ◌↔◌, ◌≡◌, List, [], ◌∷◌, ◌++◌, ℤ, length}
 use Rattle.plane.specs.declared.Point.{Point}
 use Rattle.rounds.specs.Boxes.{boxes_of, corners_of}
 use Rattle.rounds.specs.Picks.{Pick}
@@ -13,11 +13,11 @@ use Rattle.rounds.specs.declared.Corner.{Corner}
 use Rattle.rounds.specs.declared.Entry.{Entry}
 use Rattle.rounds.specs.declared.Reasons.{Reasons}
 use Rattle.rounds.specs.declared.Word.{Word}
-use Rattle.verdicts.specs.Verdicts.{VerdictIs, word_reply, verdict_on}
+use Rattle.rounds.specs.declared.Refusal.{Refusal}
+use Rattle.rounds.specs.Replies.{reply_of}
+use Rattle.verdicts.specs.Verdicts.{VerdictIs, verdict_on}
 use Rattle.verdicts.specs.declared.Verdict.{Verdict}
 use Rattle.verdicts.specs.declared.Verdict.TheVariants.{Inside, Outside, Undecided}
-use Rattle.verdicts.specs.declared.WordReply.{WordReply}
-use Rattle.verdicts.specs.declared.WordReply.TheVariants.{Given}
 use Rattle.records.specs.Records.{edges_of}
 use Rattle.formats.specs.Content.{content_of}
 use Rattle.texts.specs.Text.{count_line, plug_line, whole_fault, text_of}
@@ -44,12 +44,12 @@ entries_of r = r.first ∷ r.second ∷ r.third ∷ []
 
 -- of a verdict: inside exactly if the first driver has no successful pick, outside exactly if the second has none, otherwise undecided, with reasons that describe
 -- one successful pick for each
-pub record VerdictHolds (bs : List Box) (plug : Point) (v : Verdict) : Type 0 where
-  pub inside_exactly : (v ≡ Inside) ↔ ((k : Pick bs) → FirstSucceeds plug k → ⊥)
-  pub outside_exactly : (v ≡ Outside) ↔ ((k : Pick bs) → SecondSucceeds plug k → ⊥)
-  pub otherwise_undecided : (v ≡ Inside → ⊥) → (v ≡ Outside → ⊥) → (r : Reasons) × (v ≡ Undecided r) × Reasoned bs plug r
-  pub first_pick : (r : Reasons) → v ≡ Undecided r → (k : Pick bs) × PicksCorner r.direction.corner k × FirstSucceeds plug k
-  pub second_pick : (r : Reasons) → v ≡ Undecided r → (k : Pick bs) × PicksMeans (entries_of r) k × SecondSucceeds plug k
+pub record VerdictHolds (bs : List Box) (plug : Point) (v : Result Verdict Refusal) : Type 0 where
+  pub inside_exactly : (v ≡ Ok Inside) ↔ ((k : Pick bs) → FirstSucceeds plug k → ⊥)
+  pub outside_exactly : (v ≡ Ok Outside) ↔ ((k : Pick bs) → SecondSucceeds plug k → ⊥)
+  pub otherwise_undecided : (v ≡ Ok Inside → ⊥) → (v ≡ Ok Outside → ⊥) → (r : Reasons) × (v ≡ Ok (Undecided r)) × Reasoned bs plug r
+  pub first_pick : (r : Reasons) → v ≡ Ok (Undecided r) → (k : Pick bs) × PicksCorner r.direction.corner k × FirstSucceeds plug k
+  pub second_pick : (r : Reasons) → v ≡ Ok (Undecided r) → (k : Pick bs) × PicksMeans (entries_of r) k × SecondSucceeds plug k
 
 -- of a word alone: it is each word exactly if that word's meaning holds (`Means`)
 pub record WordHolds (bs : List Box) (plug : Point) (w : Word) : Type 0 where
@@ -70,16 +70,16 @@ NoFault boxes plug = verdict_fault boxes plug ≡ Fault.none
 -- the demand, of every call that gives a word
 pub record Demand3 : Type 0 where
   -- verdicts::verdict_on and verdicts::word_on
-  pub verdict : (boxes : List ℤ) (plug : Point) (v : Verdict) → VerdictIs boxes plug v → NoFault boxes plug → VerdictHolds (boxes_of boxes) plug v
-  pub word : (boxes : List ℤ) (plug : Point) (reply : WordReply) → word_reply reply ≡ verdict_on boxes plug → NoFault boxes plug
-      → (w : Word) × (reply ≡ Given w) × WordHolds (boxes_of boxes) plug w
+  pub verdict : (boxes : List ℤ) (plug : Point) (v : Result Verdict Refusal) → VerdictIs boxes plug v → NoFault boxes plug → VerdictHolds (boxes_of boxes) plug v
+  pub word : (boxes : List ℤ) (plug : Point) (reply : Result Word Refusal) → reply_of reply ≡ verdict_on boxes plug → NoFault boxes plug
+      → (w : Word) × (reply ≡ Ok w) × WordHolds (boxes_of boxes) plug w
   -- records::verdict_on
-  pub on_records : (boxes : List Box) (plug : Point) (v : Verdict) → VerdictIs (edges_of boxes) plug v → NoFault (edges_of boxes) plug → VerdictHolds boxes plug v
+  pub on_records : (boxes : List Box) (plug : Point) (v : Result Verdict Refusal) → VerdictIs (edges_of boxes) plug v → NoFault (edges_of boxes) plug → VerdictHolds boxes plug v
   -- c_api::feltloquat_verdict, feltloquat_word and feltloquat_verdict_on_records
   pub c_verdict : (boxes : List ℤ) (plug : Point) (s : VerdictAnswer) → Answered verdict_struct verdict_meant (VerdictIs boxes plug) s → NoFault boxes plug
       → VerdictHolds (boxes_of boxes) plug (verdict_meant s)
-  pub c_word : (boxes : List ℤ) (plug : Point) (s : WordAnswer) → Answered word_struct word_meant (λ reply. word_reply reply ≡ verdict_on boxes plug) s → NoFault boxes plug
-      → (w : Word) × (word_meant s ≡ Given w) × WordHolds (boxes_of boxes) plug w
+  pub c_word : (boxes : List ℤ) (plug : Point) (s : WordAnswer) → Answered word_struct word_meant (λ reply. reply_of reply ≡ verdict_on boxes plug) s → NoFault boxes plug
+      → (w : Word) × (word_meant s ≡ Ok w) × WordHolds (boxes_of boxes) plug w
   pub c_on_records : (boxes : List Box) (plug : Point) (s : VerdictAnswer) → Answered verdict_struct verdict_meant (VerdictIs (edges_of boxes) plug) s → NoFault (edges_of boxes) plug
       → VerdictHolds boxes plug (verdict_meant s)
   -- printing::write_text and c_api::feltloquat_print_round

@@ -1,5 +1,5 @@
 -- The second demand, of the polygons: those of the partial convex hull map (docs/SCOPE.md 2), and that verdicts follow its sure interior and exterior. Definitions only.
-use Rattle.std.specs.Prelude.{◌↔◌, ◌≡◌, List, map, ℤ, length}
+use Rattle.std.specs.Prelude.{Result, ℕ, ◌↔◌, ◌≡◌, List, map, ℤ, length}
 use Rattle.plane.specs.declared.Point.{Point}
 use Rattle.plane.specs.Vectors.{from, Supported, Balanced}
 use Rattle.rounds.specs.Refusals.{Fault, area_fault, verdict_fault}
@@ -7,8 +7,8 @@ use Rattle.rounds.specs.Replies.{result}
 use Rattle.rounds.specs.declared.Word.TheVariants.{Inside, Outside}
 use Rattle.verdicts.specs.Verdicts.{verdict_on}
 use Rattle.areas.specs.Areas.{OuterAnswered, CornersAnswered}
-use Rattle.areas.specs.declared.OuterReply.{OuterReply}
-use Rattle.areas.specs.declared.CornersReply.{CornersReply}
+use Rattle.rounds.specs.declared.Refusal.{Refusal}
+use Rattle.polygons.specs.declared.VertexCounts.{VertexCounts}
 
 -- the plug is in the hull of a polygon's vertices, edge included
 abbrev pub InHull : List Point → Point → Type 0
@@ -26,7 +26,7 @@ pub record Follows (boxes : List ℤ) (plug : Point) (outer sw se ne nw : List P
 -- the demand, of areas::outer_polygon and areas::corner_polygons: what they list for one list of boxes are its polygons (their promises), and the verdict on every plug
 -- that is accepted follows them
 pub record Demand2 : Type 0 where
-  pub follows : (boxes before after before' after' : List ℤ) (reply : OuterReply) (reply' : CornersReply)
+  pub follows : (boxes before after before' after' : List ℤ) (reply : Result ℕ Refusal) (reply' : Result VertexCounts Refusal)
       (o : OuterAnswered boxes before reply after) (c : CornersAnswered boxes before' reply' after')
       → area_fault boxes (length before) ≡ Fault.none → area_fault boxes (length before') ≡ Fault.none
       → (plug : Point) → verdict_fault boxes plug ≡ Fault.none → Follows boxes plug o.outer c.sw c.se c.ne c.nw
