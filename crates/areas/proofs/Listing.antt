@@ -6,22 +6,20 @@ use native.Mathlib.Omega.{arith}
 use borrow.Author.Tests.{ltb-false}
 use lib.Dec.{ltb}
 use lib.IntN.{ℤ}
+use Rattle.std.proofs.Common.{Result, Ok, Err}
 use lib.ListN.{length, take, drop, length-append}
 use Rattle.rounds.specs.Boxes.{BoxList, boxes_of, all_corners}
-use Rattle.rounds.specs.Refusals.{Fault, refusal_fault, fault_of, needed_place, box_list_fault, buffer_fault, area_fault}
+use Rattle.rounds.specs.Refusals.{Fault, refusal_fault, needed_place, box_list_fault, buffer_fault, area_fault}
 use Rattle.rounds.specs.declared.Cause.TheVariants.{BufferShort}
-use Rattle.rounds.specs.declared.Checked.{Checked}
 use Rattle.rounds.specs.declared.Refusal.{Refusal}
 use Rattle.rounds.proofs.Accepted.{or_else_none, when_none, accepted}
 use Rattle.listings.specs.Listings.{zeros, over_front, listing, needed}
 use Rattle.listings.proofs.Writing.{zeros_behind}
 use Rattle.polygons.specs.declared.VertexCounts.{VertexCounts}
 use Rattle.polygons.specs.Written.{PolygonWritten, CornersWritten}
-use Rattle.areas.specs.declared.OuterReply.{OuterReply}
-use Rattle.areas.specs.declared.CornersReply.{CornersReply}
 use Rattle.areas.specs.Areas.{counts_of, OuterAnswered, CornersAnswered}
 use Rattle.areas.specs.Steps.{OuterStands, CornersStand}
-use Rattle.rounds.specs.Replies.{reply_under, buffer_under, result}
+use Rattle.rounds.specs.Replies.{reply_of, reply_under, buffer_under, result}
 
 -- how many vertices the corner polygons have
 abbrev pub sum : VertexCounts → ℕ
@@ -75,24 +73,21 @@ none_means boxes given e =
 
 module _ (boxes before : List ℤ) where
   -- a refusal, and the buffer as it was
-  module _ (checked : Checked) (e : fault_of checked ≡ area_fault boxes (length before)) (refusal : Refusal) (r : checked ≡ Checked.Refused refusal) where
-    is : area_fault boxes (length before) ≡ refusal_fault refusal
-    is = sym e ∙ ap fault_of r
-
+  module _ (refusal : Refusal) (is : refusal_fault refusal ≡ area_fault boxes (length before)) where
     turned_back : {A : Type 0} → area_fault boxes (length before) ≡ Fault.none → A
     turned_back h = absurd (let z : ◌≡◌ {A = ℕ} 0 1 = cc in omega arith)
 
-    pub outer_refused : OuterAnswered boxes before (OuterReply.Refused refusal) before
-    outer_refused =
+    pub outer_refused : (reply : Result ℕ Refusal) → reply ≡ Err refusal → OuterAnswered boxes before reply before
+    outer_refused reply r =
         record {
           outer = [];
           polygon = turned_back;
-          replied = sym (ap (λ f. reply_under f 0) is);
-          buffer = sym (ap (λ f. buffer_under f (listing (needed boxes) []) before) is);
+          replied = ap reply_of r ∙ ap (λ f. reply_under f 0) is;
+          buffer = ap (λ f. buffer_under f (listing (needed boxes) []) before) is;
         }
 
-    pub corners_refused : CornersAnswered boxes before (CornersReply.Refused refusal) before
-    corners_refused =
+    pub corners_refused : (reply : Result VertexCounts Refusal) → reply ≡ Err refusal → CornersAnswered boxes before reply before
+    corners_refused reply r =
         record {
           sw = [];
           se = [];
@@ -102,22 +97,22 @@ module _ (boxes before : List ℤ) where
           southeast = turned_back;
           northeast = turned_back;
           northwest = turned_back;
-          replied = sym (ap (λ f. reply_under f (counts_of [] [] [] [])) is);
-          buffer = sym (ap (λ f. buffer_under f (listing (needed boxes) []) before) is);
+          replied = ap reply_of r ∙ ap (λ f. reply_under f (counts_of [] [] [] [])) is;
+          buffer = ap (λ f. buffer_under f (listing (needed boxes) []) before) is;
         }
 
   -- what no cause turns back
-  module _ (after : List ℤ) (a : area_fault boxes (length before) ≡ Fault.none) where
-    pub outer_listed : (count : ℕ) → OuterStands boxes before count after → OuterAnswered boxes before (OuterReply.Vertices count) after
+  module _ (after : List ℤ) (a : Fault.none ≡ area_fault boxes (length before)) where
+    pub outer_listed : (count : ℕ) → OuterStands boxes before count after → OuterAnswered boxes before (Ok count) after
     outer_listed count l =
         record {
           outer = l.outer;
           polygon = λ h. l.polygon;
-          replied = ap result l.counted ∙ sym (ap (λ f. reply_under f (length l.outer)) a);
-          buffer = l.buffer ∙ sym (ap (λ f. buffer_under f (listing (needed boxes) l.outer) before) a);
+          replied = ap result l.counted ∙ ap (λ f. reply_under f (length l.outer)) a;
+          buffer = l.buffer ∙ ap (λ f. buffer_under f (listing (needed boxes) l.outer) before) a;
         }
 
-    pub corners_listed : (counts : VertexCounts) → CornersStand boxes before counts after → CornersAnswered boxes before (CornersReply.Vertices counts) after
+    pub corners_listed : (counts : VertexCounts) → CornersStand boxes before counts after → CornersAnswered boxes before (Ok counts) after
     corners_listed counts l =
         record {
           sw = l.sw;
@@ -128,6 +123,6 @@ module _ (boxes before : List ℤ) where
           southeast = λ h. l.southeast;
           northeast = λ h. l.northeast;
           northwest = λ h. l.northwest;
-          replied = ap result l.counted ∙ sym (ap (λ f. reply_under f (counts_of l.sw l.se l.ne l.nw)) a);
-          buffer = l.buffer ∙ sym (ap (λ f. buffer_under f (listing (needed boxes) (l.sw ++ l.se ++ l.ne ++ l.nw)) before) a);
+          replied = ap result l.counted ∙ ap (λ f. reply_under f (counts_of l.sw l.se l.ne l.nw)) a;
+          buffer = l.buffer ∙ ap (λ f. buffer_under f (listing (needed boxes) (l.sw ++ l.se ++ l.ne ++ l.nw)) before) a;
         }

@@ -6,6 +6,7 @@ use Prim.Native.Nat.{ℕ, suc, ◌-◌, ◌*◌, ◌≤◌}
 use native.Mathlib.Omega.{arith}
 use lib.Dec.{eqb}
 use lib.IntN.{ℤ, pos}
+use Rattle.std.proofs.Common.{Result, Ok, Err}
 use lib.ListN.{length, drop, length-append, length-replicate}
 use Rattle.plane.specs.Members.{All, none, ◌&◌, ◌∈◌, here, there}
 use Rattle.plane.specs.declared.Point.{Point}
@@ -20,8 +21,7 @@ use Rattle.listings.specs.Listings.{flat, zeros, over_front, listing, answered, 
 use Rattle.listings.proofs.Writing.{flat_length}
 use Rattle.polygons.specs.declared.VertexCounts.{VertexCounts}
 use Rattle.polygons.proofs.Behind.{few}
-use Rattle.areas.specs.declared.OuterReply.{OuterReply}
-use Rattle.areas.specs.declared.CornersReply.{CornersReply}
+use Rattle.rounds.specs.declared.Refusal.{Refusal}
 use Rattle.areas.specs.Areas.{counts_of, OuterAnswered, CornersAnswered, OuterPromise, CornersPromise}
 use Rattle.areas.proofs.Listing.{none_means}
 
@@ -128,8 +128,8 @@ module _ (boxes before : List ℤ) where
       let w = (none_means boxes (length before) e).0.whole in
       omega (arith, few_vertices p, w, all_length boxes w)
 
-  outer_found : (reply : OuterReply) (after : List ℤ) → arisen ≡ Fault.none → OuterAnswered boxes before reply after → OuterPromise boxes before reply after
-  outer_found (OuterReply.Vertices count) after e x =
+  outer_found : (reply : Result ℕ Refusal) (after : List ℤ) → arisen ≡ Fault.none → OuterAnswered boxes before reply after → OuterPromise boxes before reply after
+  outer_found (Ok count) after e x =
       let same : result count ≡ result (length x.outer) = x.replied ∙ ap (λ f. reply_under f (length x.outer)) e in
       record {
         cause = sym e;
@@ -137,19 +137,19 @@ module _ (boxes before : List ℤ) where
         listed = λ h. record {
           outer = x.outer;
           polygon = x.polygon e;
-          counted = ap OuterReply.Vertices (same_result count (length x.outer) same);
+          counted = ap Ok (same_result count (length x.outer) same);
           buffer = x.buffer ∙ ap (λ f. buffer_under f (listing (needed boxes) x.outer) before) e ∙ listed_is x.outer (needed boxes) before (outer_room e x.outer (x.polygon e));
         };
       }
-  outer_found (OuterReply.Refused r) after e x =
+  outer_found (Err r) after e x =
       let same : refused (number_of r.cause) r.place ≡ result (length x.outer) = x.replied ∙ ap (λ f. reply_under f (length x.outer)) e in
       no_result (sym same)
 
-  outer_turned_back : (reply : OuterReply) (after : List ℤ) (c : Cause) (p : ℕ) → arisen ≡ fault c p → OuterAnswered boxes before reply after → OuterPromise boxes before reply after
-  outer_turned_back (OuterReply.Vertices count) after c p e x =
+  outer_turned_back : (reply : Result ℕ Refusal) (after : List ℤ) (c : Cause) (p : ℕ) → arisen ≡ fault c p → OuterAnswered boxes before reply after → OuterPromise boxes before reply after
+  outer_turned_back (Ok count) after c p e x =
       let same : result count ≡ refused (number_of c) p = x.replied ∙ ap (λ f. reply_under f (length x.outer)) e in
       no_result same
-  outer_turned_back (OuterReply.Refused r) after c p e x =
+  outer_turned_back (Err r) after c p e x =
       let same : ◌≡◌ {A = Reply ℕ} (refused (number_of r.cause) r.place) (refused (number_of c) p) = x.replied ∙ ap (λ f. reply_under f (length x.outer)) e in
       record {
         cause = same_fault r.cause c r.place p same ∙ sym e;
@@ -158,7 +158,7 @@ module _ (boxes before : List ℤ) where
       }
 
 -- what outer_polygon answers by its equations keeps the promise with the fault first
-pub outer_promise : (boxes before : List ℤ) (reply : OuterReply) (after : List ℤ) → OuterAnswered boxes before reply after → OuterPromise boxes before reply after
+pub outer_promise : (boxes before : List ℤ) (reply : Result ℕ Refusal) (after : List ℤ) → OuterAnswered boxes before reply after → OuterPromise boxes before reply after
 outer_promise boxes before reply after x = by (area_fault boxes (length before)) refl
   where
     by : (f : Fault) → area_fault boxes (length before) ≡ f → OuterPromise boxes before reply after
@@ -168,8 +168,8 @@ outer_promise boxes before reply after x = by (area_fault boxes (length before))
 -- ---- the corner polygons
 
 module _ (boxes before : List ℤ) where
-  corners_found : (reply : CornersReply) (after : List ℤ) → area_fault boxes (length before) ≡ Fault.none → CornersAnswered boxes before reply after → CornersPromise boxes before reply after
-  corners_found (CornersReply.Vertices counts) after e x =
+  corners_found : (reply : Result VertexCounts Refusal) (after : List ℤ) → area_fault boxes (length before) ≡ Fault.none → CornersAnswered boxes before reply after → CornersPromise boxes before reply after
+  corners_found (Ok counts) after e x =
       let same : result counts ≡ result (counts_of x.sw x.se x.ne x.nw) = x.replied ∙ ap (λ f. reply_under f (counts_of x.sw x.se x.ne x.nw)) e in
       record {
         cause = sym e;
@@ -183,7 +183,7 @@ module _ (boxes before : List ℤ) where
           southeast = x.southeast e;
           northeast = x.northeast e;
           northwest = x.northwest e;
-          counted = ap CornersReply.Vertices (same_result counts (counts_of x.sw x.se x.ne x.nw) same);
+          counted = ap Ok (same_result counts (counts_of x.sw x.se x.ne x.nw) same);
           buffer = x.buffer ∙ ap (λ f. buffer_under f (listing (needed boxes) (x.sw ++ x.se ++ x.ne ++ x.nw)) before) e ∙ listed_is (x.sw ++ x.se ++ x.ne ++ x.nw) (needed boxes) before room;
         };
       }
@@ -199,16 +199,16 @@ module _ (boxes before : List ℤ) where
             few _ boxes (few_vertices (x.northeast e)),
             few _ boxes (few_vertices (x.northwest e)),
           ))
-  corners_found (CornersReply.Refused r) after e x =
+  corners_found (Err r) after e x =
       let same : refused (number_of r.cause) r.place ≡ result (counts_of x.sw x.se x.ne x.nw) = x.replied ∙ ap (λ f. reply_under f (counts_of x.sw x.se x.ne x.nw)) e in
       no_result (sym same)
 
-  corners_turned_back : (reply : CornersReply) (after : List ℤ) (c : Cause) (p : ℕ) → area_fault boxes (length before) ≡ fault c p → CornersAnswered boxes before reply after
+  corners_turned_back : (reply : Result VertexCounts Refusal) (after : List ℤ) (c : Cause) (p : ℕ) → area_fault boxes (length before) ≡ fault c p → CornersAnswered boxes before reply after
       → CornersPromise boxes before reply after
-  corners_turned_back (CornersReply.Vertices counts) after c p e x =
+  corners_turned_back (Ok counts) after c p e x =
       let same : result counts ≡ refused (number_of c) p = x.replied ∙ ap (λ f. reply_under f (counts_of x.sw x.se x.ne x.nw)) e in
       no_result same
-  corners_turned_back (CornersReply.Refused r) after c p e x =
+  corners_turned_back (Err r) after c p e x =
       let same : ◌≡◌ {A = Reply VertexCounts} (refused (number_of r.cause) r.place) (refused (number_of c) p) = x.replied ∙ ap (λ f. reply_under f (counts_of x.sw x.se x.ne x.nw)) e in
       record {
         cause = same_fault r.cause c r.place p same ∙ sym e;
@@ -217,7 +217,7 @@ module _ (boxes before : List ℤ) where
       }
 
 -- what corner_polygons answers by its equations keeps the promise with the fault first
-pub corners_promise : (boxes before : List ℤ) (reply : CornersReply) (after : List ℤ) → CornersAnswered boxes before reply after → CornersPromise boxes before reply after
+pub corners_promise : (boxes before : List ℤ) (reply : Result VertexCounts Refusal) (after : List ℤ) → CornersAnswered boxes before reply after → CornersPromise boxes before reply after
 corners_promise boxes before reply after x = by (area_fault boxes (length before)) refl
   where
     by : (f : Fault) → area_fault boxes (length before) ≡ f → CornersPromise boxes before reply after

@@ -3,74 +3,54 @@
 #![tactic(auto)]
 
 ghost use Rattle.std.specs.Prelude.{◌≤◌, length};
-ghost use Rattle.rounds.specs.Boxes.{BoxList};
 ghost use Rattle.listings.specs.Listings.{needed};
 ghost use Rattle.areas.specs.Areas.{OuterPromise, CornersPromise, OuterAnswered, CornersAnswered};
 ghost use Rattle.areas.specs.Steps.{OuterStands, CornersStand};
 
+use boxes::Boxes;
 use polygons::VertexCounts;
-use rounds::{Checked, Refusal};
-
-// What the call for the outer polygon answers: how many vertices it has.
-#[derive(Clone, Copy)]
-pub enum OuterReply {
-    Vertices(usize),
-    Refused(Refusal),
-}
-
-// What the call for the corner polygons answers.
-#[derive(Clone, Copy)]
-pub enum CornersReply {
-    Vertices(VertexCounts),
-    Refused(Refusal),
-}
+use rounds::Refusal;
 
 // Writes the outer polygon and the zeros after it.
-fn list_outer(boxes: &[i32], answer: &mut [i32]) -> usize
-    requires { BoxList boxes.now × (needed boxes.now ≤ length answer.old) }
-    ensures { OuterStands boxes.now answer.old result answer.new }
+fn list_outer(boxes: Boxes, answer: &mut [i32]) -> usize
+    requires { needed boxes.numbers.now ≤ length answer.old }
+    ensures { OuterStands boxes.entry.numbers.now answer.old result answer.new }
 {
     let count = polygons::write_outer(boxes, answer);
     let end = count * 2;
-    listings::clear(end, boxes.len() / 4 * 8, answer);
+    listings::clear(end, boxes.len() * 8, answer);
     count
 }
 
 // Writes the corner polygons and the zeros after them.
-fn list_corners(boxes: &[i32], answer: &mut [i32]) -> VertexCounts
-    requires { BoxList boxes.now × (needed boxes.now ≤ length answer.old) }
-    ensures { CornersStand boxes.now answer.old result answer.new }
+fn list_corners(boxes: Boxes, answer: &mut [i32]) -> VertexCounts
+    requires { needed boxes.numbers.now ≤ length answer.old }
+    ensures { CornersStand boxes.entry.numbers.now answer.old result answer.new }
 {
     let counts = polygons::write_corners(boxes, answer);
     let end = (counts.southwest + counts.southeast + counts.northeast + counts.northwest) * 2;
-    listings::clear(end, boxes.len() / 4 * 8, answer);
+    listings::clear(end, boxes.len() * 8, answer);
     counts
 }
 
 // The outer polygon of the boxes, at the front of answer, with how many vertices it has; or a refusal, and answer is
 // as it was.
-pub fn outer_polygon(boxes: &[i32], answer: &mut [i32]) -> OuterReply
-    ensures promise { OuterPromise boxes.now answer.old result answer.new }
-    ensures answered { OuterAnswered boxes.now answer.old result answer.new }
+pub fn outer_polygon(numbers: &[i32], answer: &mut [i32]) -> Result<usize, Refusal>
+    ensures promise { OuterPromise numbers.now answer.old result answer.new }
+    ensures answered { OuterAnswered numbers.now answer.old result answer.new }
 {
-    let checked = checks::check_area(boxes, answer.len());
-    if let Checked::Refused(refusal) = checked {
-        return OuterReply::Refused(refusal);
-    }
+    let boxes = checks::check_area(numbers, answer.len())?;
     let count = list_outer(boxes, answer);
-    OuterReply::Vertices(count)
+    Ok(count)
 }
 
 // The corner polygons SW, SE, NE, NW of the boxes, one behind another in answer, with how many vertices each has; or a
 // refusal, and answer is as it was.
-pub fn corner_polygons(boxes: &[i32], answer: &mut [i32]) -> CornersReply
-    ensures promise { CornersPromise boxes.now answer.old result answer.new }
-    ensures answered { CornersAnswered boxes.now answer.old result answer.new }
+pub fn corner_polygons(numbers: &[i32], answer: &mut [i32]) -> Result<VertexCounts, Refusal>
+    ensures promise { CornersPromise numbers.now answer.old result answer.new }
+    ensures answered { CornersAnswered numbers.now answer.old result answer.new }
 {
-    let checked = checks::check_area(boxes, answer.len());
-    if let Checked::Refused(refusal) = checked {
-        return CornersReply::Refused(refusal);
-    }
-    let counts = list_corners(boxes, answer);
-    CornersReply::Vertices(counts)
+    let accepted = checks::check_area(numbers, answer.len())?;
+    let counts = list_corners(accepted, answer);
+    Ok(counts)
 }

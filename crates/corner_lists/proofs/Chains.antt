@@ -144,10 +144,8 @@ module _ (f : ℕ → ℕ) (g : Point → Point) (sees : (x : ℕ) → Key x →
 
 -- ---- the two lists, one behind the other in an array
 
-module _ (l : List ℤ) (a b : Corner) (ks : List ℕ) (room : length l / 4 + length l / 4 ≤ length ks) (kk : KeysOf (corners_of a (boxes_of l) ++ corners_of b (boxes_of l)) ks) where
-  abbrev n : ℕ
-  n = length l / 4
-
+module _ (l : List ℤ) (a b : Corner) (n : ℕ) (is : n ≡ length l / 4) (ks : List ℕ) (room : n + n ≤ length ks)
+    (kk : KeysOf (corners_of a (boxes_of l) ++ corners_of b (boxes_of l)) ks) where
   abbrev qs : List Point
   qs = corners_of a (boxes_of l) ++ corners_of b (boxes_of l)
 
@@ -155,7 +153,7 @@ module _ (l : List ℤ) (a b : Corner) (ks : List ℕ) (room : length l / 4 + le
   z = point (pos 0) (pos 0)
 
   qs_length : length qs ≡ n + n
-  qs_length = two_length a b l
+  qs_length = omega (arith, two_length a b l, is)
 
   key_at_lem : (i : ℕ) → i < n + n → KeyOf (get_or qs i z) (get (take (n + n) ks) i)
   key_at_lem i h =
@@ -165,26 +163,37 @@ module _ (l : List ℤ) (a b : Corner) (ks : List ℕ) (room : length l / 4 + le
       taken : i < length (take (length qs) ks)
       taken = omega (arith, length-take-le (length qs) ks (omega (arith, qs_length)), qs_length)
 
+  pub both_taken : length (take (n + n) ks) ≡ n + n
+  both_taken = length-take-le (n + n) ks room
+
   pub both_keys : AllKeys (get (take (n + n) ks)) (length (take (n + n) ks))
-  both_keys = record { key = λ i h. (key_at_lem i (omega (arith, length-take-le (n + n) ks room))).key }
+  both_keys = record { key = λ i h. (key_at_lem i (omega (arith, both_taken))).key }
 
   -- and what f gives to them
   module _ (f : ℕ → ℕ) (ms : List ℕ) (long : length ms ≡ n + n) (same : (i : ℕ) → i < n + n → get ms i ≡ f (get (take (n + n) ks) i)) where
     pub left_held : HoldsKeys f l a (take n ms)
     left_held =
         record {
-          long = length-take-le n ms (omega (arith, long));
-          at = λ k h. let e = nth_corner_lem a l k h ∙ sym (get_or-append (corners_of a (boxes_of l)) (corners_of b (boxes_of l)) z k (omega (arith, corners_length a l))) in
-              (get (take (n + n) ks) k, subst (λ q. KeyOf q (get (take (n + n) ks) k)) (sym e) (key_at_lem k (omega arith)), get_or-take n ms k 0 h ∙ same k (omega arith));
+          long = length-take-le n ms (omega (arith, long)) ∙ is;
+          at = λ k h.
+              let e = nth_corner_lem a l k h ∙ sym (get_or-append (corners_of a (boxes_of l)) (corners_of b (boxes_of l)) z k (omega (arith, corners_length a l))) in (
+                get (take (n + n) ks) k,
+                subst (λ q. KeyOf q (get (take (n + n) ks) k)) (sym e) (key_at_lem k (omega (arith, is))),
+                get_or-take n ms k 0 (omega (arith, is)) ∙ same k (omega (arith, is)),
+              );
         }
 
     pub right_held : HoldsKeys f l b (drop n ms)
     right_held =
         record {
-          long = simp length-drop (omega (arith, long));
-          at = λ k h. let e : corner_of b (box_at l (k * 4)) ≡ get_or qs (n + k) z = nth_corner_lem b l k h ∙ sym (behind k) in
-              (get (take (n + n) ks) (n + k), subst (λ q. KeyOf q (get (take (n + n) ks) (n + k))) (sym e) (key_at_lem (n + k) (omega arith)), get_or-drop n ms k 0 ∙ same (n + k) (omega arith));
+          long = simp length-drop (omega (arith, long, is));
+          at = λ k h.
+              let e : corner_of b (box_at l (k * 4)) ≡ get_or qs (n + k) z = nth_corner_lem b l k h ∙ sym (behind k) in (
+                get (take (n + n) ks) (n + k),
+                subst (λ q. KeyOf q (get (take (n + n) ks) (n + k))) (sym e) (key_at_lem (n + k) (omega (arith, is))),
+                get_or-drop n ms k 0 ∙ same (n + k) (omega (arith, is)),
+              );
         }
       where
         behind : (k : ℕ) → get_or qs (n + k) z ≡ get_or (corners_of b (boxes_of l)) k z
-        behind k = ap (λ m. get_or qs (m + k) z) (sym (corners_length a l)) ∙ get_or-append-add (corners_of a (boxes_of l)) (corners_of b (boxes_of l)) k z
+        behind k = ap (λ m. get_or qs (m + k) z) (is ∙ sym (corners_length a l)) ∙ get_or-append-add (corners_of a (boxes_of l)) (corners_of b (boxes_of l)) k z

@@ -28,17 +28,17 @@ pub record HoldsKeys (f : ℕ → ℕ) (l : List ℤ) (corner : Corner) (ks : Li
   pub at : (k : ℕ) → k < length l / 4 → (x : ℕ) × KeyOf (corner_of corner (box_at l (k * 4))) x × (get ks k ≡ f x)
 
 -- the keys of one corner, at the front of an array
-pub one_held : (l : List ℤ) (c : Corner) (ks : List ℕ) → length l / 4 ≤ length ks → KeysOf (corners_of c (boxes_of l)) ks → HoldsKeys (λ k. k) l c (take (length l / 4) ks)
-one_held l c ks room kk =
-    subst (λ m. HoldsKeys (λ k. k) l c (take m ks)) (corners_length c l)
+pub one_held : (l : List ℤ) (c : Corner) (n : ℕ) → n ≡ length l / 4 → (ks : List ℕ) → n ≤ length ks → KeysOf (corners_of c (boxes_of l)) ks → HoldsKeys (λ k. k) l c (take n ks)
+one_held l c n is ks room kk =
+    subst (λ m. HoldsKeys (λ k. k) l c (take m ks)) (corners_length c l ∙ sym is)
     (record {
-      long = length-take-le (length (corners_of c (boxes_of l))) ks (omega (arith, corners_length c l)) ∙ corners_length c l;
+      long = length-take-le (length (corners_of c (boxes_of l))) ks (omega (arith, corners_length c l, is)) ∙ corners_length c l;
       at = λ k h. (get (take (length (corners_of c (boxes_of l))) ks) k, key_at_lem k h, refl);
     })
   where
     key_at_lem : (k : ℕ) → k < length l / 4 → KeyOf (corner_of c (box_at l (k * 4))) (get (take (length (corners_of c (boxes_of l))) ks) k)
     key_at_lem k h =
-        let o : k < length (take (length (corners_of c (boxes_of l))) ks) = omega (arith, length-take-le (length (corners_of c (boxes_of l))) ks (omega (arith, corners_length c l)), corners_length c l) in
+        let o : k < length (take (length (corners_of c (boxes_of l))) ks) = omega (arith, length-take-le (length (corners_of c (boxes_of l))) ks (omega (arith, corners_length c l, is)), corners_length c l) in
         record {
           key = index_of_all 0 kk.keys k o;
           is =

@@ -6,45 +6,44 @@ ghost use Rattle.std.specs.Prelude.{◌++◌, ◌+◌, ◌/◌, ◌≤◌, lengt
 ghost use Rattle.turns.specs.Keys.{AllKeys};
 ghost use Rattle.turns.specs.Reflection.{reflected};
 ghost use Rattle.orders.specs.Order.{get};
-ghost use Rattle.rounds.specs.Boxes.{boxes_of, corners_of, all_corners, BoxList};
+ghost use Rattle.rounds.specs.Boxes.{boxes_of, corners_of, all_corners};
 ghost use Rattle.corner_lists.specs.KeyLists.{KeysOf};
 ghost use Rattle.corner_lists.specs.ChainKeys.{Reflects, PointEnds, ChainRoom, ChainKeys};
 
+use boxes::Boxes;
 use extremes::Ends;
 use rounds::Corner;
 
 // Writes the keys of that one corner of every box to the front of keys.
-pub fn put_corner_keys(boxes: &[i32], corner: Corner, keys: &mut [u32])
-    requires { BoxList boxes.now × (length boxes.now / 4 ≤ length keys.old) }
-    ensures { KeysOf (corners_of corner (boxes_of boxes.now)) keys.new }
+pub fn put_corner_keys(boxes: Boxes, corner: Corner, keys: &mut [u32])
+    requires { length boxes.numbers.now / 4 ≤ length keys.old }
+    ensures { KeysOf (corners_of corner (boxes_of boxes.entry.numbers.now)) keys.new }
 {
-    let count = boxes.len() / 4;
-    let mut k: usize = 0;
-    while k < count {
+    let count = boxes.len();
+    for k in 0..count {
         keys[k] = corners::corner_key(boxes, k, corner);
-        k += 1;
     }
 }
 
 // Writes the keys of one corner of every box to the front of keys, and those of another behind them.
-pub fn put_two_corners(boxes: &[i32], first: Corner, second: Corner, keys: &mut [u32])
-    requires { BoxList boxes.now × (length boxes.now / 4 + length boxes.now / 4 ≤ length keys.old) }
+pub fn put_two_corners(boxes: Boxes, first: Corner, second: Corner, keys: &mut [u32])
+    requires { length boxes.numbers.now / 4 + length boxes.numbers.now / 4 ≤ length keys.old }
     ensures { KeysOf
-        (corners_of first (boxes_of boxes.now) ++ corners_of second (boxes_of boxes.now))
+        (corners_of first (boxes_of boxes.entry.numbers.now) ++ corners_of second (boxes_of boxes.entry.numbers.now))
         keys.new }
 {
-    let n = boxes.len() / 4;
+    let n = boxes.len();
     put_corner_keys(boxes, first, keys);
     put_corner_keys(boxes, second, &mut keys[n..]);
 }
 
 // The least key of all corners, which is that of a south-western one, and the greatest, that of a north-eastern one.
 // What keys holds is lost.
-pub fn find_corner_ends(boxes: &[i32], keys: &mut [u32]) -> Ends
-    requires { BoxList boxes.now × (length boxes.now / 4 ≤ length keys.old) }
-    ensures { PointEnds (all_corners (boxes_of boxes.now)) result.first result.last }
+pub fn find_corner_ends(boxes: Boxes, keys: &mut [u32]) -> Ends
+    requires { length boxes.numbers.now / 4 ≤ length keys.old }
+    ensures { PointEnds (all_corners (boxes_of boxes.entry.numbers.now)) result.first result.last }
 {
-    let n = boxes.len() / 4;
+    let n = boxes.len();
     put_corner_keys(boxes, Corner::SouthWest, keys);
     let least = extremes::find_ends(&keys[..n]);
     put_corner_keys(boxes, Corner::NorthEast, keys);
@@ -60,29 +59,27 @@ fn reflect_keys(keys: &mut [u32])
     requires { AllKeys (get keys.old) (length keys.old) }
     ensures { Reflects keys.old keys.new (length keys.old) }
 {
-    let mut i: usize = 0;
-    while i < keys.len() {
-        keys[i] = turns::reflected(keys[i]);
-        i += 1;
+    for key in keys.iter_mut() {
+        *key = turns::reflected(*key);
     }
 }
 
 // The keys for the upper chain of all corners from the least, first, to the greatest, last, in order, at the front of
 // list: of the north-western and the north-eastern corners. What keys and scratch hold is lost.
 pub fn upper_keys(
-    boxes: &[i32],
+    boxes: Boxes,
     first: u32,
     last: u32,
     list: &mut [u32],
     keys: &mut [u32],
     scratch: &mut [u32],
 ) -> usize
-    requires box_list { BoxList boxes.now × PointEnds (all_corners (boxes_of boxes.now)) first last }
-    requires chain_room { ChainRoom (length boxes.now / 4) list.old keys.old scratch.old }
-    ensures { ChainKeys (λ k. k) (all_corners (boxes_of boxes.now)) (length boxes.now / 4)
+    requires point_ends { PointEnds (all_corners (boxes_of boxes.numbers.now)) first last }
+    requires chain_room { ChainRoom (length boxes.numbers.now / 4) list.old keys.old scratch.old }
+    ensures { ChainKeys (λ k. k) (all_corners (boxes_of boxes.entry.numbers.now)) (length boxes.entry.numbers.now / 4)
         first last list.new result }
 {
-    let n = boxes.len() / 4;
+    let n = boxes.len();
     let end = n + n;
     put_two_corners(boxes, Corner::NorthWest, Corner::NorthEast, keys);
     quarters::upper_list(&keys[..end], n, first, last, list, scratch)
@@ -90,19 +87,19 @@ pub fn upper_keys(
 
 // The same for the lower chain: the keys, reflected, of the south-eastern and the south-western corners.
 pub fn lower_keys(
-    boxes: &[i32],
+    boxes: Boxes,
     first: u32,
     last: u32,
     list: &mut [u32],
     keys: &mut [u32],
     scratch: &mut [u32],
 ) -> usize
-    requires box_list { BoxList boxes.now × PointEnds (all_corners (boxes_of boxes.now)) first last }
-    requires chain_room { ChainRoom (length boxes.now / 4) list.old keys.old scratch.old }
-    ensures { ChainKeys reflected (all_corners (boxes_of boxes.now)) (length boxes.now / 4)
+    requires point_ends { PointEnds (all_corners (boxes_of boxes.numbers.now)) first last }
+    requires chain_room { ChainRoom (length boxes.numbers.now / 4) list.old keys.old scratch.old }
+    ensures { ChainKeys reflected (all_corners (boxes_of boxes.entry.numbers.now)) (length boxes.entry.numbers.now / 4)
         (reflected last) (reflected first) list.new result }
 {
-    let n = boxes.len() / 4;
+    let n = boxes.len();
     let end = n + n;
     put_two_corners(boxes, Corner::SouthEast, Corner::SouthWest, keys);
     reflect_keys(&mut keys[..end]);

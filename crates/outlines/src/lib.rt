@@ -2,12 +2,13 @@
 #![tactic(auto)]
 
 ghost use Rattle.std.specs.Prelude.{◌≡◌, ◌+◌, ◌*◌, ◌/◌, ◌≤◌, ◌<◌, length, min};
-ghost use Rattle.rounds.specs.Boxes.{boxes_of, corners_of, all_corners, BoxList};
+ghost use Rattle.rounds.specs.Boxes.{boxes_of, corners_of, all_corners};
 ghost use Rattle.corner_lists.specs.KeyLists.{KeysOf};
 ghost use Rattle.corner_lists.specs.ChainKeys.{PointEnds};
 ghost use Rattle.outlines.specs.Outlines.{ScratchFor, OuterRoom, PolygonKeys, PolygonBehind, TwoBehind};
 ghost use Rattle.outlines.specs.RoundPolygons.{RoundPolygons};
 
+use boxes::Boxes;
 use rounds::Corner;
 
 // Scratch for the keys of two corners of each of the most boxes that a round has, and a little more, so that each chain
@@ -27,27 +28,27 @@ pub struct RoundCounts {
 // The corner polygon of that one corner of every box: the first of vertices, as many as are returned.
 // What the scratch holds is lost.
 pub fn corner_outline(
-    boxes: &[i32],
+    boxes: Boxes,
     corner: Corner,
     vertices: &mut [u32],
     keys: &mut [u32],
     mirror: &mut [u32],
 ) -> usize
-    requires box_list { BoxList boxes.now × (length boxes.now / 4 ≤ length vertices.old) }
-    requires scratch_for { ScratchFor (length boxes.now / 4) keys.old mirror.old }
-    ensures { PolygonKeys (corners_of corner (boxes_of boxes.now)) vertices.new result }
+    requires room { length boxes.numbers.now / 4 ≤ length vertices.old }
+    requires scratch_for { ScratchFor (length boxes.numbers.now / 4) keys.old mirror.old }
+    ensures { PolygonKeys (corners_of corner (boxes_of boxes.entry.numbers.now)) vertices.new result }
 {
-    let n = boxes.len() / 4;
+    let n = boxes.len();
     corner_lists::put_corner_keys(boxes, corner, keys);
     hulls::hull(&mut keys[..n], vertices, mirror)
 }
 
 // Writes the keys of all four corners of all boxes to the front of keys.
-fn put_all_corners(boxes: &[i32], keys: &mut [u32])
-    requires { BoxList boxes.now × (length boxes.now ≤ length keys.old) }
-    ensures { KeysOf (all_corners (boxes_of boxes.now)) keys.new }
+fn put_all_corners(boxes: Boxes, keys: &mut [u32])
+    requires { length boxes.numbers.now ≤ length keys.old }
+    ensures { KeysOf (all_corners (boxes_of boxes.entry.numbers.now)) keys.new }
 {
-    let half = boxes.len() / 4 + boxes.len() / 4;
+    let half = 2 * boxes.len();
     corner_lists::put_two_corners(boxes, Corner::SouthWest, Corner::SouthEast, keys);
     corner_lists::put_two_corners(
         boxes,
@@ -59,16 +60,16 @@ fn put_all_corners(boxes: &[i32], keys: &mut [u32])
 
 // The outer polygon, from all corners: the first of vertices, as many as are returned. What the scratch holds is lost.
 pub fn outer_outline(
-    boxes: &[i32],
+    boxes: Boxes,
     vertices: &mut [u32],
     keys: &mut [u32],
     mirror: &mut [u32],
 ) -> usize
-    requires box_list { BoxList boxes.now × (length boxes.now ≤ length vertices.old) }
-    requires scratch_for { ScratchFor (length boxes.now) keys.old mirror.old }
-    ensures { PolygonKeys (all_corners (boxes_of boxes.now)) vertices.new result }
+    requires room { length boxes.numbers.now ≤ length vertices.old }
+    requires scratch_for { ScratchFor (length boxes.numbers.now) keys.old mirror.old }
+    ensures { PolygonKeys (all_corners (boxes_of boxes.entry.numbers.now)) vertices.new result }
 {
-    let n = boxes.len();
+    let n = boxes.numbers.len();
     put_all_corners(boxes, keys);
     hulls::hull(&mut keys[..n], vertices, mirror)
 }
@@ -76,16 +77,16 @@ pub fn outer_outline(
 // The outer polygon from the least key of all corners, first, to the greatest, last: the upper chain without its last
 // vertex, and then the lower one without its last, which is made, reflected, in keys.
 fn outer_chains(
-    boxes: &[i32],
+    boxes: Boxes,
     first: u32,
     last: u32,
     vertices: &mut [u32],
     keys: &mut [u32],
     list: &mut [u32],
 ) -> usize
-    requires box_list { BoxList boxes.now × PointEnds (all_corners (boxes_of boxes.now)) first last × (first < last) }
-    requires outer_room { OuterRoom (length boxes.now / 4) vertices.old keys.old list.old }
-    ensures { PolygonKeys (all_corners (boxes_of boxes.now)) vertices.new result }
+    requires point_ends { PointEnds (all_corners (boxes_of boxes.numbers.now)) first last × (first < last) }
+    requires outer_room { OuterRoom (length boxes.numbers.now / 4) vertices.old keys.old list.old }
+    ensures { PolygonKeys (all_corners (boxes_of boxes.entry.numbers.now)) vertices.new result }
 {
     let u = corner_lists::upper_keys(boxes, first, last, list, keys, vertices);
     let ku = chains::upper_chain(first, &list[..u], last, vertices);
@@ -102,14 +103,13 @@ fn outer_chains(
 
 // The outer polygon, by quarters: the first of vertices, as many as are returned. What the scratch holds is lost.
 pub fn quartered_outline(
-    boxes: &[i32],
+    boxes: Boxes,
     vertices: &mut [u32],
     keys: &mut [u32],
     list: &mut [u32],
 ) -> usize
-    requires box_list { BoxList boxes.now }
-    requires outer_room { OuterRoom (length boxes.now / 4) vertices.old keys.old list.old }
-    ensures { PolygonKeys (all_corners (boxes_of boxes.now)) vertices.new result }
+    requires outer_room { OuterRoom (length boxes.numbers.now / 4) vertices.old keys.old list.old }
+    ensures { PolygonKeys (all_corners (boxes_of boxes.entry.numbers.now)) vertices.new result }
 {
     let ends = corner_lists::find_corner_ends(boxes, keys);
     let first = ends.first;
@@ -123,16 +123,16 @@ pub fn quartered_outline(
 
 // The corner polygon of that one corner of every box, in the part of vertices that the first `from` leave free.
 fn append_outline(
-    boxes: &[i32],
+    boxes: Boxes,
     corner: Corner,
     from: usize,
     vertices: &mut [u32],
     keys: &mut [u32],
     mirror: &mut [u32],
 ) -> usize
-    requires box_list { BoxList boxes.now × (from + length boxes.now / 4 ≤ length vertices.old) }
-    requires scratch_for { ScratchFor (length boxes.now / 4) keys.old mirror.old }
-    ensures { PolygonBehind (corners_of corner (boxes_of boxes.now)) from vertices.old result
+    requires room { from + length boxes.numbers.now / 4 ≤ length vertices.old }
+    requires scratch_for { ScratchFor (length boxes.numbers.now / 4) keys.old mirror.old }
+    ensures { PolygonBehind (corners_of corner (boxes_of boxes.entry.numbers.now)) from vertices.old result
         vertices.new }
 {
     corner_outline(boxes, corner, &mut vertices[from..], keys, mirror)
@@ -148,7 +148,7 @@ pub struct TwoCounts {
 // The corner polygons of two corners of every box, one behind the other, in the part of vertices that the first `from`
 // leave free.
 fn append_two_outlines(
-    boxes: &[i32],
+    boxes: Boxes,
     first: Corner,
     second: Corner,
     from: usize,
@@ -156,10 +156,10 @@ fn append_two_outlines(
     keys: &mut [u32],
     mirror: &mut [u32],
 ) -> TwoCounts
-    requires box_list { BoxList boxes.now × (from + 2 * (length boxes.now / 4) ≤ length vertices.old) }
-    requires scratch_for { ScratchFor (length boxes.now / 4) keys.old mirror.old }
+    requires room { from + 2 * (length boxes.numbers.now / 4) ≤ length vertices.old }
+    requires scratch_for { ScratchFor (length boxes.numbers.now / 4) keys.old mirror.old }
     ensures { TwoBehind
-        (corners_of first (boxes_of boxes.now)) (corners_of second (boxes_of boxes.now))
+        (corners_of first (boxes_of boxes.entry.numbers.now)) (corners_of second (boxes_of boxes.entry.numbers.now))
         from vertices.old result.first result.second vertices.new }
 {
     let one = append_outline(boxes, first, from, vertices, keys, mirror);
@@ -172,13 +172,13 @@ fn append_two_outlines(
 }
 
 // The outer polygon: by quarters, but for one box, whose corners have room where the quarters' keys may have none.
-fn first_outline(boxes: &[i32], vertices: &mut [u32], keys: &mut [u32], mirror: &mut [u32]) -> usize
-    requires box_list { BoxList boxes.now × (8 * (length boxes.now / 4) ≤ length vertices.old) }
+fn first_outline(boxes: Boxes, vertices: &mut [u32], keys: &mut [u32], mirror: &mut [u32]) -> usize
+    requires room { 8 * (length boxes.numbers.now / 4) ≤ length vertices.old }
     requires scratch_for { ScratchFor
-        (min (length boxes.now) (length boxes.now / 4 + length boxes.now / 4 + 3)) keys.old mirror.old }
-    ensures { PolygonKeys (all_corners (boxes_of boxes.now)) vertices.new result }
+        (min (length boxes.numbers.now) (length boxes.numbers.now / 4 + length boxes.numbers.now / 4 + 3)) keys.old mirror.old }
+    ensures { PolygonKeys (all_corners (boxes_of boxes.entry.numbers.now)) vertices.new result }
 {
-    if boxes.len() <= 4 {
+    if boxes.len() <= 1 {
         return outer_outline(boxes, vertices, keys, mirror);
     }
     quartered_outline(boxes, vertices, keys, mirror)
@@ -187,15 +187,15 @@ fn first_outline(boxes: &[i32], vertices: &mut [u32], keys: &mut [u32], mirror: 
 // The outer polygon and the corner polygons SW, SE, NE, NW, one behind another at the front of vertices, each in the
 // part that the earlier ones left free. What the scratch holds is lost.
 pub fn round_outlines(
-    boxes: &[i32],
+    boxes: Boxes,
     vertices: &mut [u32],
     keys: &mut [u32],
     mirror: &mut [u32],
 ) -> RoundCounts
-    requires box_list { BoxList boxes.now × (8 * (length boxes.now / 4) ≤ length vertices.old) }
+    requires room { 8 * (length boxes.numbers.now / 4) ≤ length vertices.old }
     requires scratch_for { ScratchFor
-        (min (length boxes.now) (length boxes.now / 4 + length boxes.now / 4 + 3)) keys.old mirror.old }
-    ensures { RoundPolygons (boxes_of boxes.now) vertices.new result }
+        (min (length boxes.numbers.now) (length boxes.numbers.now / 4 + length boxes.numbers.now / 4 + 3)) keys.old mirror.old }
+    ensures { RoundPolygons (boxes_of boxes.entry.numbers.now) vertices.new result }
 {
     let outer = first_outline(boxes, vertices, keys, mirror);
     let south = append_two_outlines(

@@ -3,11 +3,12 @@
 #![tactic(auto)]
 
 ghost use Rattle.std.specs.Prelude.{◌+◌, ◌*◌, ◌/◌, ◌≤◌, length};
-ghost use Rattle.rounds.specs.Boxes.{boxes_of, corners_of, all_corners, BoxList};
+ghost use Rattle.rounds.specs.Boxes.{boxes_of, corners_of, all_corners};
 ghost use Rattle.outlines.specs.Outlines.{ScratchFor, OuterRoom};
 ghost use Rattle.listings.specs.Listings.{needed};
 ghost use Rattle.polygons.specs.Written.{PolygonWritten, TwoWritten, CornersWritten};
 
+use boxes::Boxes;
 use outlines::{MOST_KEYS, TwoCounts};
 use rounds::{Corner, MOST_BOXES};
 
@@ -40,16 +41,16 @@ pub struct VertexCounts {
 
 // Writes the outer polygon over the front of answer, in lent scratch. What the scratch holds is lost.
 fn write_outer_in(
-    boxes: &[i32],
+    boxes: Boxes,
     answer: &mut [i32],
     vertices: &mut [u32],
     keys: &mut [u32],
     list: &mut [u32],
 ) -> usize
-    requires box_list { BoxList boxes.now × (length boxes.now * 2 ≤ length answer.old) }
-    requires outer_room { OuterRoom (length boxes.now / 4) vertices.old keys.old list.old }
+    requires answer_room { length boxes.numbers.now * 2 ≤ length answer.old }
+    requires outer_room { OuterRoom (length boxes.numbers.now / 4) vertices.old keys.old list.old }
     ensures { PolygonWritten
-        (all_corners (boxes_of boxes.now)) 0 answer.old result answer.new }
+        (all_corners (boxes_of boxes.entry.numbers.now)) 0 answer.old result answer.new }
 {
     let count = outlines::quartered_outline(boxes, vertices, keys, list);
     listings::write_vertices(&vertices[..count], answer);
@@ -57,12 +58,12 @@ fn write_outer_in(
 }
 
 // Writes the outer polygon over the front of answer.
-pub fn write_outer(boxes: &[i32], answer: &mut [i32]) -> usize
-    requires { BoxList boxes.now × (length boxes.now * 2 ≤ length answer.old) }
+pub fn write_outer(boxes: Boxes, answer: &mut [i32]) -> usize
+    requires { length boxes.numbers.now * 2 ≤ length answer.old }
     ensures { PolygonWritten
-        (all_corners (boxes_of boxes.now)) 0 answer.old result answer.new }
+        (all_corners (boxes_of boxes.entry.numbers.now)) 0 answer.old result answer.new }
 {
-    let count = boxes.len() / 4;
+    let count = boxes.len();
     if count <= FEW_BOXES {
         let mut vertices = [0u32; FEW_VERTICES];
         let mut keys = [0u32; FEW_KEYS];
@@ -84,18 +85,18 @@ pub fn write_outer(boxes: &[i32], answer: &mut [i32]) -> usize
 // Writes the polygon of that one corner of every box over the front of answer, in lent scratch. What the scratch
 // holds is lost.
 fn write_corner(
-    boxes: &[i32],
+    boxes: Boxes,
     corner: Corner,
     answer: &mut [i32],
     vertices: &mut [u32],
     keys: &mut [u32],
     mirror: &mut [u32],
 ) -> usize
-    requires box_list { BoxList boxes.now × (length boxes.now / 4 * 2 ≤ length answer.old) }
-    requires boxes_in_bounds { length boxes.now / 4 ≤ length vertices.old }
-    requires scratch_for { ScratchFor (length boxes.now / 4) keys.old mirror.old }
+    requires answer_room { length boxes.numbers.now / 4 * 2 ≤ length answer.old }
+    requires boxes_in_bounds { length boxes.numbers.now / 4 ≤ length vertices.old }
+    requires scratch_for { ScratchFor (length boxes.numbers.now / 4) keys.old mirror.old }
     ensures { PolygonWritten
-        (corners_of corner (boxes_of boxes.now)) 0 answer.old result answer.new }
+        (corners_of corner (boxes_of boxes.entry.numbers.now)) 0 answer.old result answer.new }
 {
     let count = outlines::corner_outline(boxes, corner, vertices, keys, mirror);
     listings::write_vertices(&vertices[..count], answer);
@@ -104,7 +105,7 @@ fn write_corner(
 
 // Writes the polygon of that one corner of every box into the part of answer that the first `from` numbers leave free.
 fn append_corner(
-    boxes: &[i32],
+    boxes: Boxes,
     corner: Corner,
     from: usize,
     answer: &mut [i32],
@@ -112,18 +113,18 @@ fn append_corner(
     keys: &mut [u32],
     mirror: &mut [u32],
 ) -> usize
-    requires box_list { BoxList boxes.now × (from + length boxes.now / 4 * 2 ≤ length answer.old) }
-    requires boxes_in_bounds { length boxes.now / 4 ≤ length vertices.old }
-    requires scratch_for { ScratchFor (length boxes.now / 4) keys.old mirror.old }
+    requires answer_room { from + length boxes.numbers.now / 4 * 2 ≤ length answer.old }
+    requires boxes_in_bounds { length boxes.numbers.now / 4 ≤ length vertices.old }
+    requires scratch_for { ScratchFor (length boxes.numbers.now / 4) keys.old mirror.old }
     ensures { PolygonWritten
-        (corners_of corner (boxes_of boxes.now)) from answer.old result answer.new }
+        (corners_of corner (boxes_of boxes.entry.numbers.now)) from answer.old result answer.new }
 {
     write_corner(boxes, corner, &mut answer[from..], vertices, keys, mirror)
 }
 
 // Writes the polygons of two corners of every box, one behind the other, likewise.
 fn append_two_corners(
-    boxes: &[i32],
+    boxes: Boxes,
     first: Corner,
     second: Corner,
     from: usize,
@@ -132,11 +133,11 @@ fn append_two_corners(
     keys: &mut [u32],
     mirror: &mut [u32],
 ) -> TwoCounts
-    requires box_list { BoxList boxes.now × (from + length boxes.now / 4 * 4 ≤ length answer.old) }
-    requires boxes_in_bounds { length boxes.now / 4 ≤ length vertices.old }
-    requires scratch_for { ScratchFor (length boxes.now / 4) keys.old mirror.old }
+    requires answer_room { from + length boxes.numbers.now / 4 * 4 ≤ length answer.old }
+    requires boxes_in_bounds { length boxes.numbers.now / 4 ≤ length vertices.old }
+    requires scratch_for { ScratchFor (length boxes.numbers.now / 4) keys.old mirror.old }
     ensures { TwoWritten
-        (corners_of first (boxes_of boxes.now)) (corners_of second (boxes_of boxes.now))
+        (corners_of first (boxes_of boxes.entry.numbers.now)) (corners_of second (boxes_of boxes.entry.numbers.now))
         from answer.old result answer.new }
 {
     let one = append_corner(boxes, first, from, answer, vertices, keys, mirror);
@@ -151,16 +152,16 @@ fn append_two_corners(
 // Writes the corner polygons one behind another over the front of answer, in lent scratch. What the scratch holds is
 // lost.
 fn write_corners_in(
-    boxes: &[i32],
+    boxes: Boxes,
     answer: &mut [i32],
     vertices: &mut [u32],
     keys: &mut [u32],
     mirror: &mut [u32],
 ) -> VertexCounts
-    requires box_list { BoxList boxes.now × (needed boxes.now ≤ length answer.old) }
-    requires boxes_in_bounds { length boxes.now / 4 ≤ length vertices.old }
-    requires scratch_for { ScratchFor (length boxes.now / 4) keys.old mirror.old }
-    ensures { CornersWritten (boxes_of boxes.now) answer.old result answer.new }
+    requires answer_room { needed boxes.numbers.now ≤ length answer.old }
+    requires boxes_in_bounds { length boxes.numbers.now / 4 ≤ length vertices.old }
+    requires scratch_for { ScratchFor (length boxes.numbers.now / 4) keys.old mirror.old }
+    ensures { CornersWritten (boxes_of boxes.entry.numbers.now) answer.old result answer.new }
 {
     let south = append_two_corners(
         boxes,
@@ -192,11 +193,11 @@ fn write_corners_in(
 }
 
 // Writes the corner polygons one behind another over the front of answer.
-pub fn write_corners(boxes: &[i32], answer: &mut [i32]) -> VertexCounts
-    requires { BoxList boxes.now × (needed boxes.now ≤ length answer.old) }
-    ensures { CornersWritten (boxes_of boxes.now) answer.old result answer.new }
+pub fn write_corners(boxes: Boxes, answer: &mut [i32]) -> VertexCounts
+    requires { needed boxes.numbers.now ≤ length answer.old }
+    ensures { CornersWritten (boxes_of boxes.entry.numbers.now) answer.old result answer.new }
 {
-    let count = boxes.len() / 4;
+    let count = boxes.len();
     if count <= FEW_BOXES {
         let mut vertices = [0u32; FEW_BOXES];
         let mut keys = [0u32; FEW_BOXES];

@@ -1,58 +1,39 @@
 -- `areas::list_corners` meets its contract: the polygons stand at the front, and zeros behind them. Assumes nothing.
+use mathlib.Core.List.{List}
 use Prim.Native.Nat.{◌*◌, ◌/◌, ◌≤◌}
 use native.Mathlib.Omega.{arith}
+use lib.IntN.{ℤ}
 use lib.ListN.{length}
+use Rattle.rounds.specs.Boxes.{boxes_of}
+use Rattle.polygons.specs.declared.VertexCounts.{VertexCounts}
+use Rattle.polygons.specs.Written.{CornersWritten}
 use Rattle.polygons.proofs.Behind.{few}
 use Rattle.areas.proofs.Listing.{sum, corners_zeroed}
 use Rattle.areas.proofs.list_corners.Goals as goal
 
+-- the vertices have room among the numbers needed
+room : (l : List ℤ) {d xs : List ℤ} (n : VertexCounts) → CornersWritten (boxes_of l) d n xs → sum n * 2 ≤ length l / 4 * 8
+room l n w = omega (arith, few _ l w.southwest.few, few _ l w.southeast.few, few _ l w.northeast.few, few _ l w.northwest.few)
+
 pub overflow_add-end : goal.overflow_add-end
-overflow_add-end c =
-    let few-vertices : sum c.write_corners-counts.result * 2 ≤ length c.args.boxes.now / 4 * 8 =
-    let xs = c.args.boxes.now in
-    let w = c.write_corners-counts.ensures in
-    omega (arith, few _ xs w.southwest.few, few _ xs w.southeast.few, few _ xs w.northeast.few, few _ xs w.northwest.few) in
-    omega (arith, few-vertices)
+overflow_add-end c = let w = c.write_corners-counts in omega (arith, room c.args.boxes.numbers.now w.result w.ensures)
 
 pub overflow_add-end-2 : goal.overflow_add-end-2
-overflow_add-end-2 c =
-    let few-vertices : sum c.write_corners-counts.result * 2 ≤ length c.args.boxes.now / 4 * 8 =
-    let xs = c.args.boxes.now in
-    let w = c.write_corners-counts.ensures in
-    omega (arith, few _ xs w.southwest.few, few _ xs w.southeast.few, few _ xs w.northeast.few, few _ xs w.northwest.few) in
-    omega (arith, few-vertices)
+overflow_add-end-2 c = let w = c.write_corners-counts in omega (arith, room c.args.boxes.numbers.now w.result w.ensures)
 
 pub overflow_add-end-3 : goal.overflow_add-end-3
-overflow_add-end-3 c =
-    let few-vertices : sum c.write_corners-counts.result * 2 ≤ length c.args.boxes.now / 4 * 8 =
-    let xs = c.args.boxes.now in
-    let w = c.write_corners-counts.ensures in
-    omega (arith, few _ xs w.southwest.few, few _ xs w.southeast.few, few _ xs w.northeast.few, few _ xs w.northwest.few) in
-    omega (arith, few-vertices)
+overflow_add-end-3 c = let w = c.write_corners-counts in omega (arith, room c.args.boxes.numbers.now w.result w.ensures)
 
 pub overflow_mul-end : goal.overflow_mul-end
-overflow_mul-end c =
-    let few-vertices : sum c.write_corners-counts.result * 2 ≤ length c.args.boxes.now / 4 * 8 =
-    let xs = c.args.boxes.now in
-    let w = c.write_corners-counts.ensures in
-    omega (arith, few _ xs w.southwest.few, few _ xs w.southeast.few, few _ xs w.northeast.few, few _ xs w.northwest.few) in
-    omega (arith, few-vertices)
+overflow_mul-end c = let w = c.write_corners-counts in omega (arith, room c.args.boxes.numbers.now w.result w.ensures)
 
 pub clear-requires : goal.clear-requires
 clear-requires c =
-    let few-vertices : sum c.write_corners-counts.result * 2 ≤ length c.args.boxes.now / 4 * 8 =
-    let xs = c.args.boxes.now in
-    let w = c.write_corners-counts.ensures in
-    omega (arith, few _ xs w.southwest.few, few _ xs w.southeast.few, few _ xs w.northeast.few, few _ xs w.northwest.few) in
-    (few-vertices, omega (arith, c.requires.1, c.write_corners-counts.auto.answer))
+    let w = c.write_corners-counts in
+    let few = room c.args.boxes.numbers.now w.result w.ensures in (omega (arith, few), omega (arith, c.requires))
 
 pub returns : goal.returns
 returns c =
-    let few-vertices : sum c.write_corners-counts.result * 2 ≤ length c.args.boxes.now / 4 * 8 =
-    let xs = c.args.boxes.now in
-    let w = c.write_corners-counts.ensures in
-    omega (arith, few _ xs w.southwest.few, few _ xs w.southeast.few, few _ xs w.northeast.few, few _ xs w.northwest.few) in
+    let l = c.args.boxes.numbers.now in
     let w = c.write_corners-counts in
-    let z = c.clear in
-    let n = length c.args.boxes.now / 4 * 8 in
-    corners_zeroed c.args.boxes.now c.args.answer.now w.new.answer z.new.answer w.result n w.ensures (omega arith) few-vertices z.ensures
+    corners_zeroed l c.args.answer.now w.new.answer c.clear.new.answer w.result (c.len.result * 8) w.ensures (omega arith) (omega (arith, room l w.result w.ensures)) c.clear.ensures

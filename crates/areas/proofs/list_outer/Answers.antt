@@ -1,28 +1,28 @@
 -- `areas::list_outer` meets its contract: the polygon stands at the front, and zeros behind it. Assumes nothing.
-use Prim.Native.Nat.{◌*◌, ◌/◌, ◌≤◌}
+use mathlib.Core.List.{List}
+use Prim.Native.Nat.{ℕ, ◌*◌, ◌/◌, ◌≤◌}
 use native.Mathlib.Omega.{arith}
+use lib.IntN.{ℤ}
 use lib.ListN.{length}
+use Rattle.rounds.specs.Boxes.{BoxList, boxes_of, all_corners}
 use Rattle.outlines.proofs.Polygons.{all_length}
+use Rattle.polygons.specs.Written.{PolygonWritten}
 use Rattle.areas.proofs.Listing.{outer_zeroed}
 use Rattle.areas.proofs.list_outer.Goals as goal
 
+-- the vertices have room among the numbers needed
+room : (l : List ℤ) → BoxList l → {d xs : List ℤ} {count : ℕ} → PolygonWritten (all_corners (boxes_of l)) 0 d count xs → count * 2 ≤ length l / 4 * 8
+room l bl w = omega (arith, w.made.few, bl.whole, all_length l bl.whole)
+
 pub overflow_mul-end : goal.overflow_mul-end
-overflow_mul-end c =
-    let few-vertices : c.write_outer-count.result * 2 ≤ length c.args.boxes.now / 4 * 8 =
-    omega (arith, c.write_outer-count.ensures.made.few, c.requires.0.whole, all_length c.args.boxes.now c.requires.0.whole) in
-    omega (arith, few-vertices)
+overflow_mul-end c = omega (arith, room c.args.boxes.numbers.now c.args.boxes.accepted c.write_outer-count.ensures)
 
 pub clear-requires : goal.clear-requires
 clear-requires c =
-    let few-vertices : c.write_outer-count.result * 2 ≤ length c.args.boxes.now / 4 * 8 =
-    omega (arith, c.write_outer-count.ensures.made.few, c.requires.0.whole, all_length c.args.boxes.now c.requires.0.whole) in
-    (few-vertices, omega (arith, c.requires.1, c.write_outer-count.auto.answer))
+    let few = room c.args.boxes.numbers.now c.args.boxes.accepted c.write_outer-count.ensures in (omega (arith, few), omega (arith, c.requires))
 
 pub returns : goal.returns
 returns c =
-    let few-vertices : c.write_outer-count.result * 2 ≤ length c.args.boxes.now / 4 * 8 =
-    omega (arith, c.write_outer-count.ensures.made.few, c.requires.0.whole, all_length c.args.boxes.now c.requires.0.whole) in
+    let l = c.args.boxes.numbers.now in
     let w = c.write_outer-count in
-    let z = c.clear in
-    let n = length c.args.boxes.now / 4 * 8 in
-    outer_zeroed c.args.boxes.now c.args.answer.now w.new.answer z.new.answer w.result n w.ensures (omega arith) few-vertices z.ensures
+    outer_zeroed l c.args.answer.now w.new.answer c.clear.new.answer w.result (c.len.result * 8) w.ensures (omega arith) (omega (arith, room l c.args.boxes.accepted w.ensures)) c.clear.ensures

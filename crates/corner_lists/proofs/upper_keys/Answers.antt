@@ -1,42 +1,44 @@
--- `corner_lists::upper_keys` meets its contract: the north-western and the north-eastern corners are the widest of every box. In the answers p is the place after the call
--- of `put_two_corners`, and s the function's entry. Assumes nothing.
-use mathlib.Core.Path.{◌≡◌, refl, sym}
-use Prim.Native.Nat.{◌+◌, ◌/◌, ◌≤◌}
+-- `corner_lists::upper_keys` meets its contract: the north-western and the north-eastern corners are the widest of every box. Assumes nothing.
+use mathlib.Core.Path.{◌≡◌, refl}
+use mathlib.Core.List.{List, ◌++◌}
+use Prim.Native.Nat.{ℕ, ◌+◌, ◌/◌, ◌≤◌}
 use native.Mathlib.Omega.{arith}
+use lib.IntN.{ℤ}
 use lib.ListN.{length, take, drop}
-use lib.Seq.{length-take-le}
+use Rattle.rounds.specs.Boxes.{BoxList, boxes_of, corners_of, all_corners}
 use Rattle.rounds.specs.declared.Corner.TheVariants.{NorthEast, NorthWest}
+use Rattle.quarters.specs.Quarters.{UpperInput, UpperList}
+use Rattle.corner_lists.specs.KeyLists.{KeysOf}
+use Rattle.corner_lists.specs.ChainKeys.{PointEnds, ChainRoom, ChainKeys}
 use Rattle.corner_lists.proofs.Boxes.{widest_north}
 use Rattle.corner_lists.proofs.Ends.{HoldsKeys}
-use Rattle.corner_lists.proofs.Chains.{left_held, right_held, upper_input, chain_keys}
+use Rattle.corner_lists.proofs.Chains.{both_taken, left_held, right_held, upper_input, chain_keys}
 use Rattle.corner_lists.proofs.upper_keys.Goals as goal
 
-pub slice_bounds-upper_list-end-2 : goal.slice_bounds-upper_list-end-2
-slice_bounds-upper_list-end-2 c =
-    let room : length c.args.boxes.now / 4 + length c.args.boxes.now / 4 ≤ length c.put_two_corners.new.keys = omega (arith, c.put_two_corners.auto.keys, c.requires.chain_room.in_keys) in
-    let taken : length (take (length c.args.boxes.now / 4 + length c.args.boxes.now / 4) c.put_two_corners.new.keys)
-    ≡ length c.args.boxes.now / 4 + length c.args.boxes.now / 4 = length-take-le _ c.put_two_corners.new.keys room in
-    sym (taken)
+module _ (l : List ℤ) (bl : BoxList l) (n : ℕ) (is : n ≡ length l / 4) (ks : List ℕ) (room : n + n ≤ length ks)
+    (kk : KeysOf (corners_of NorthWest (boxes_of l) ++ corners_of NorthEast (boxes_of l)) ks) where
+  left : HoldsKeys (λ k. k) l NorthWest (take n (take (n + n) ks))
+  left = left_held l NorthWest NorthEast n is ks room kk (λ k. k) _ (both_taken l NorthWest NorthEast n is ks room kk) (λ i h. refl)
 
-pub upper_list-requires : goal.upper_list-requires
-upper_list-requires c =
-    let room : length c.args.boxes.now / 4 + length c.args.boxes.now / 4 ≤ length c.put_two_corners.new.keys = omega (arith, c.put_two_corners.auto.keys, c.requires.chain_room.in_keys) in
-    let taken : length (take (length c.args.boxes.now / 4 + length c.args.boxes.now / 4) c.put_two_corners.new.keys)
-    ≡ length c.args.boxes.now / 4 + length c.args.boxes.now / 4 = length-take-le _ c.put_two_corners.new.keys room in
-    let left : HoldsKeys (λ k. k) c.args.boxes.now NorthWest (take (length c.args.boxes.now / 4) (take (length c.args.boxes.now / 4 + length c.args.boxes.now / 4) c.put_two_corners.new.keys)) = left_held c.args.boxes.now NorthWest NorthEast c.put_two_corners.new.keys room c.put_two_corners.ensures (λ k. k) _ taken (λ i h. refl) in
-    let right : HoldsKeys (λ k. k) c.args.boxes.now NorthEast (drop (length c.args.boxes.now / 4) (take (length c.args.boxes.now / 4 + length c.args.boxes.now / 4) c.put_two_corners.new.keys)) = right_held c.args.boxes.now NorthWest NorthEast c.put_two_corners.new.keys room c.put_two_corners.ensures (λ k. k) _ taken (λ i h. refl) in
-    let e = c.requires.box_list.1 in record {
-      n_in_bounds = omega (arith, taken);
-      upper_input = upper_input (λ k. k) (λ q. q) (λ x h. refl) (λ x h. h) NorthWest NorthEast widest_north c.args.boxes.now c.requires.box_list.0 _ _ (left) (right)
-          e.first_in.key e.last_in.key e.least e.most c.requires.chain_room;
-    }
+  right : HoldsKeys (λ k. k) l NorthEast (drop n (take (n + n) ks))
+  right = right_held l NorthWest NorthEast n is ks room kk (λ k. k) _ (both_taken l NorthWest NorthEast n is ks room kk) (λ i h. refl)
+
+  input : {first last : ℕ} {list keys scratch : List ℕ} → PointEnds (all_corners (boxes_of l)) first last → ChainRoom (length l / 4) list keys scratch
+      → UpperInput (take n (take (n + n) ks)) (drop n (take (n + n) ks)) first last list scratch
+  input e r =
+      upper_input (λ k. k) (λ q. q) (λ x h. refl) (λ x h. h) NorthWest NorthEast widest_north l bl _ _ left right e.first_in.key e.last_in.key e.least e.most r
+
+  chain : (first last : ℕ) (out : List ℕ) (u : ℕ) → UpperList (take n (take (n + n) ks)) (drop n (take (n + n) ks)) first last out u
+      → ChainKeys (λ k. k) (all_corners (boxes_of l)) (length l / 4) first last out u
+  chain first last out u ul =
+      chain_keys (λ k. k) (λ q. q) (λ x h. refl) (λ x h. h) NorthWest NorthEast widest_north l bl _ _ left right first last out u ul
+
+pub upper_list-requires-clause-upper_input : goal.upper_list-requires-clause-upper_input
+upper_list-requires-clause-upper_input c =
+    input c.args.boxes.numbers.now c.args.boxes.accepted c.len-n.result c.len-n.ensures c.put_two_corners.new.keys (omega (arith, c.requires.chain_room.in_keys)) c.put_two_corners.ensures
+    c.requires.point_ends c.requires.chain_room
 
 pub returns : goal.returns
 returns c =
-    let room : length c.args.boxes.now / 4 + length c.args.boxes.now / 4 ≤ length c.put_two_corners.new.keys = omega (arith, c.put_two_corners.auto.keys, c.requires.chain_room.in_keys) in
-    let taken : length (take (length c.args.boxes.now / 4 + length c.args.boxes.now / 4) c.put_two_corners.new.keys)
-    ≡ length c.args.boxes.now / 4 + length c.args.boxes.now / 4 = length-take-le _ c.put_two_corners.new.keys room in
-    let left : HoldsKeys (λ k. k) c.args.boxes.now NorthWest (take (length c.args.boxes.now / 4) (take (length c.args.boxes.now / 4 + length c.args.boxes.now / 4) c.put_two_corners.new.keys)) = left_held c.args.boxes.now NorthWest NorthEast c.put_two_corners.new.keys room c.put_two_corners.ensures (λ k. k) _ taken (λ i h. refl) in
-    let right : HoldsKeys (λ k. k) c.args.boxes.now NorthEast (drop (length c.args.boxes.now / 4) (take (length c.args.boxes.now / 4 + length c.args.boxes.now / 4) c.put_two_corners.new.keys)) = right_held c.args.boxes.now NorthWest NorthEast c.put_two_corners.new.keys room c.put_two_corners.ensures (λ k. k) _ taken (λ i h. refl) in
-    chain_keys (λ k. k) (λ q. q) (λ x h. refl) (λ x h. h) NorthWest NorthEast widest_north c.args.boxes.now c.requires.box_list.0 _ _ (left) (right)
+    chain c.args.boxes.numbers.now c.args.boxes.accepted c.len-n.result c.len-n.ensures c.put_two_corners.new.keys (omega (arith, c.requires.chain_room.in_keys)) c.put_two_corners.ensures
     c.args.first c.args.last c.upper_list.new.out c.upper_list.result c.upper_list.ensures

@@ -1,7 +1,7 @@
 -- `listings::clear` meets its contract. The invariant: the numbers before k are those that were, up to `from`, and then zeros. Assumes nothing.
 use mathlib.Core.Path.{◌≡◌}
 use mathlib.Core.List.{List, ◌++◌}
-use Prim.Native.Nat.{ℕ, ◌+◌, ◌-◌, ◌≤◌}
+use Prim.Native.Nat.{ℕ, ◌-◌, ◌≤◌}
 use lib.IntN.{ℤ}
 use lib.ListN.{length, take}
 use Rattle.listings.specs.Listings.{zeros}

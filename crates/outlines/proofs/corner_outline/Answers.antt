@@ -1,39 +1,24 @@
 -- `outlines::corner_outline` meets its contract: the hull of the keys of the corners is that of the corners. Assumes nothing.
-use mathlib.Core.Path.{◌≡◌, sym}
-use Prim.Native.Nat.{◌/◌, ◌≤◌}
+use mathlib.Core.Path.{sym, ◌∙◌}
 use native.Mathlib.Omega.{arith}
-use lib.ListN.{length, take}
-use lib.Seq.{length-take-le}
+use Rattle.std.proofs.lemmas.List.{length-take}
 use Rattle.rounds.specs.Boxes.{boxes_of, corners_of}
 use Rattle.corners.proofs.Places.{corners_length}
 use Rattle.outlines.proofs.Polygons.{front_keys, front_polygon}
 use Rattle.outlines.proofs.corner_outline.Goals as goal
-use Rattle.outlines.proofs.corner_outline.Goals.{After-put_corner_keys}
 
--- the keys of the corners have room
-room : (c : After-put_corner_keys) → length c.args.boxes.now / 4 ≤ length c.put_corner_keys.new.keys
-room c = omega (arith, c.put_corner_keys.auto.keys, c.requires.scratch_for.in_keys)
+pub hull-requires-clause-in_bounds : goal.hull-requires-clause-in_bounds
+hull-requires-clause-in_bounds c =
+    let some = c.args.boxes.accepted.some in
+    (simp length-take (omega (arith, some, c.requires.scratch_for.in_keys)), simp length-take (omega arith), simp length-take (omega (arith, c.requires.scratch_for.in_mirror)))
 
-pub slice_bounds-hull-end : goal.slice_bounds-hull-end
-slice_bounds-hull-end c =
-    let room : length c.args.boxes.now / 4 ≤ length c.put_corner_keys.new.keys = omega (arith, c.put_corner_keys.auto.keys, c.requires.scratch_for.in_keys) in
-    room
-
-pub slice_bounds-hull-end-2 : goal.slice_bounds-hull-end-2
-slice_bounds-hull-end-2 c =
-    let room : length c.args.boxes.now / 4 ≤ length c.put_corner_keys.new.keys = omega (arith, c.put_corner_keys.auto.keys, c.requires.scratch_for.in_keys) in
-    sym (length-take-le _ c.put_corner_keys.new.keys (room))
-
-pub hull-requires : goal.hull-requires
-hull-requires c =
-    let room : length c.args.boxes.now / 4 ≤ length c.put_corner_keys.new.keys = omega (arith, c.put_corner_keys.auto.keys, c.requires.scratch_for.in_keys) in
-    let f = c.put_corner_keys in
-    let n = length c.args.boxes.now / 4 in
-    let l : length (take n f.new.keys) ≡ n = length-take-le n f.new.keys (room) in record { in_bounds = (omega (arith, c.requires.box_list.0.some), omega (arith, c.requires.box_list.1), omega (arith, c.requires.scratch_for.in_mirror)); all_keys = front_keys (corners_of c.args.corner (boxes_of c.args.boxes.now)) f.new.keys n (corners_length c.args.corner c.args.boxes.now) (room) f.ensures }
+pub hull-requires-clause-all_keys : goal.hull-requires-clause-all_keys
+hull-requires-clause-all_keys c =
+    front_keys (corners_of c.args.corner (boxes_of c.args.boxes.numbers.now)) c.put_corner_keys.new.keys c.len-n.result
+    (corners_length c.args.corner c.args.boxes.numbers.now ∙ sym c.len-n.ensures) (omega (arith, c.requires.scratch_for.in_keys)) c.put_corner_keys.ensures
 
 pub returns : goal.returns
 returns c =
-    let room : length c.args.boxes.now / 4 ≤ length c.put_corner_keys.new.keys = omega (arith, c.put_corner_keys.auto.keys, c.requires.scratch_for.in_keys) in
-    let f = c.put_corner_keys in
-    front_polygon (corners_of c.args.corner (boxes_of c.args.boxes.now)) f.new.keys (length c.args.boxes.now / 4) (corners_length c.args.corner c.args.boxes.now) (room) f.ensures
-    c.hull.new.vertices c.hull.result (omega (arith, c.hull.auto.vertices, c.requires.box_list.1)) c.hull.ensures
+    front_polygon (corners_of c.args.corner (boxes_of c.args.boxes.numbers.now)) c.put_corner_keys.new.keys c.len-n.result
+    (corners_length c.args.corner c.args.boxes.numbers.now ∙ sym c.len-n.ensures) (omega (arith, c.requires.scratch_for.in_keys)) c.put_corner_keys.ensures
+    c.hull.new.vertices c.hull.result (omega arith) c.hull.ensures

@@ -1,38 +1,24 @@
 -- `outlines::outer_outline` meets its contract: the hull of the keys of the corners is that of the corners. Assumes nothing.
-use mathlib.Core.Path.{◌≡◌, sym}
-use Prim.Native.Nat.{◌≤◌}
 use native.Mathlib.Omega.{arith}
-use lib.ListN.{length, take}
-use lib.Seq.{length-take-le}
+use lib.ListN.{length}
+use Rattle.std.proofs.lemmas.List.{length-take}
 use Rattle.rounds.specs.Boxes.{boxes_of, all_corners}
 use Rattle.outlines.proofs.Polygons.{all_length, front_keys, front_polygon}
 use Rattle.outlines.proofs.outer_outline.Goals as goal
-use Rattle.outlines.proofs.outer_outline.Goals.{After-put_all_corners}
 
--- the keys of the corners have room
-room : (c : After-put_all_corners) → length c.args.boxes.now ≤ length c.put_all_corners.new.keys
-room c = omega (arith, c.put_all_corners.auto.keys, c.requires.scratch_for.in_keys)
+pub hull-requires-clause-in_bounds : goal.hull-requires-clause-in_bounds
+hull-requires-clause-in_bounds c =
+    let some = c.args.boxes.accepted.some in
+    (simp length-take (omega (arith, some, c.requires.scratch_for.in_keys)), simp length-take (omega arith), simp length-take (omega (arith, c.requires.scratch_for.in_mirror)))
 
-pub slice_bounds-hull-end : goal.slice_bounds-hull-end
-slice_bounds-hull-end c =
-    let room : length c.args.boxes.now ≤ length c.put_all_corners.new.keys = omega (arith, c.put_all_corners.auto.keys, c.requires.scratch_for.in_keys) in
-    room
-
-pub slice_bounds-hull-end-2 : goal.slice_bounds-hull-end-2
-slice_bounds-hull-end-2 c =
-    let room : length c.args.boxes.now ≤ length c.put_all_corners.new.keys = omega (arith, c.put_all_corners.auto.keys, c.requires.scratch_for.in_keys) in
-    sym (length-take-le _ c.put_all_corners.new.keys (room))
-
-pub hull-requires : goal.hull-requires
-hull-requires c =
-    let room : length c.args.boxes.now ≤ length c.put_all_corners.new.keys = omega (arith, c.put_all_corners.auto.keys, c.requires.scratch_for.in_keys) in
-    let f = c.put_all_corners in
-    let n = length c.args.boxes.now in
-    let l : length (take n f.new.keys) ≡ n = length-take-le n f.new.keys (room) in record { in_bounds = (omega (arith, c.requires.box_list.0.some), omega (arith, c.requires.box_list.1), omega (arith, c.requires.scratch_for.in_mirror)); all_keys = front_keys (all_corners (boxes_of c.args.boxes.now)) f.new.keys n (all_length c.args.boxes.now c.requires.box_list.0.whole) (room) f.ensures }
+pub hull-requires-clause-all_keys : goal.hull-requires-clause-all_keys
+hull-requires-clause-all_keys c =
+    let l = c.args.boxes.numbers.now in
+    front_keys (all_corners (boxes_of l)) c.put_all_corners.new.keys (length l) (all_length l c.args.boxes.accepted.whole) (omega (arith, c.requires.scratch_for.in_keys))
+    c.put_all_corners.ensures
 
 pub returns : goal.returns
 returns c =
-    let room : length c.args.boxes.now ≤ length c.put_all_corners.new.keys = omega (arith, c.put_all_corners.auto.keys, c.requires.scratch_for.in_keys) in
-    let f = c.put_all_corners in
-    front_polygon (all_corners (boxes_of c.args.boxes.now)) f.new.keys (length c.args.boxes.now) (all_length c.args.boxes.now c.requires.box_list.0.whole) (room) f.ensures
-    c.hull.new.vertices c.hull.result (omega (arith, c.hull.auto.vertices, c.requires.box_list.1)) c.hull.ensures
+    let l = c.args.boxes.numbers.now in
+    front_polygon (all_corners (boxes_of l)) c.put_all_corners.new.keys (length l) (all_length l c.args.boxes.accepted.whole) (omega (arith, c.requires.scratch_for.in_keys))
+    c.put_all_corners.ensures c.hull.new.vertices c.hull.result (omega arith) c.hull.ensures

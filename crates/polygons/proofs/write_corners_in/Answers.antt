@@ -1,46 +1,38 @@
 -- `polygons::write_corners_in` meets its contract: the northern polygons stand behind the southern ones. Assumes nothing.
-use Prim.Native.Nat.{◌+◌, ◌*◌, ◌/◌, ◌≤◌}
+use Prim.Native.Nat.{ℕ, ◌+◌, ◌*◌, ◌/◌, ◌≤◌}
+use mathlib.Core.List.{List}
 use native.Mathlib.Omega.{arith}
+use lib.IntN.{ℤ}
 use lib.ListN.{length}
-use Rattle.rounds.specs.Boxes.{boxes_of}
+use Rattle.rounds.specs.Boxes.{boxes_of, corner_of, corners_of}
+use Rattle.rounds.specs.declared.Corner.{Corner}
+use Rattle.rounds.specs.declared.Corner.TheVariants.{SouthWest, SouthEast}
+use Rattle.outlines.specs.declared.TwoCounts.{TwoCounts}
+use Rattle.polygons.specs.Written.{TwoWritten}
 use Rattle.polygons.proofs.Behind.{few, corners_written}
 use Rattle.polygons.proofs.write_corners_in.Goals as goal
 
+-- two corner polygons have at most two vertices for each box
+two_few : (l : List ℤ) (a b : Corner) {from : ℕ} {x y : List ℤ} (n : TwoCounts) → TwoWritten (corners_of a (boxes_of l)) (corners_of b (boxes_of l)) from x n y
+    → n.first + n.second ≤ length l / 4 * 2
+two_few l a b n t = omega (arith, few (corner_of a) l t.first.few, few (corner_of b) l t.second.few)
+
 pub overflow_add-next : goal.overflow_add-next
 overflow_add-next c =
-    let few-south : c.append_two_corners-south.result.first + c.append_two_corners-south.result.second ≤ length c.args.boxes.now / 4 * 2 =
-    let xs = c.args.boxes.now in
-    let e = c.append_two_corners-south.ensures in
-    omega (arith, few _ xs e.first.few, few _ xs e.second.few) in
-    omega (arith, few-south)
+    let s = c.append_two_corners-south in omega (arith, two_few c.args.boxes.numbers.now SouthWest SouthEast s.result s.ensures)
 
 pub overflow_mul-next : goal.overflow_mul-next
 overflow_mul-next c =
-    let few-south : c.append_two_corners-south.result.first + c.append_two_corners-south.result.second ≤ length c.args.boxes.now / 4 * 2 =
-    let xs = c.args.boxes.now in
-    let e = c.append_two_corners-south.ensures in
-    omega (arith, few _ xs e.first.few, few _ xs e.second.few) in
-    omega (arith, few-south)
+    let s = c.append_two_corners-south in omega (arith, two_few c.args.boxes.numbers.now SouthWest SouthEast s.result s.ensures)
 
-pub append_two_corners-north-requires : goal.append_two_corners-north-requires
-append_two_corners-north-requires c =
-    let few-south : c.append_two_corners-south.result.first + c.append_two_corners-south.result.second ≤ length c.args.boxes.now / 4 * 2 =
-    let xs = c.args.boxes.now in
-    let e = c.append_two_corners-south.ensures in
-    omega (arith, few _ xs e.first.few, few _ xs e.second.few) in
-    record {
-      box_list = (c.requires.box_list.0, omega (arith, few-south, c.requires.box_list.1, c.append_two_corners-south.auto.answer));
-      boxes_in_bounds = omega (arith, c.requires.boxes_in_bounds, c.append_two_corners-south.auto.vertices);
-      scratch_for = record { in_keys = omega (arith, c.requires.scratch_for.in_keys, c.append_two_corners-south.auto.keys); in_mirror = omega (arith, c.requires.scratch_for.in_mirror, c.append_two_corners-south.auto.mirror) };
-    }
+pub append_two_corners-north-requires-clause-answer_room : goal.append_two_corners-north-requires-clause-answer_room
+append_two_corners-north-requires-clause-answer_room c =
+    let s = c.append_two_corners-south in omega (arith, two_few c.args.boxes.numbers.now SouthWest SouthEast s.result s.ensures, c.requires.answer_room)
 
 pub returns : goal.returns
 returns c =
-    let few-south : c.append_two_corners-south.result.first + c.append_two_corners-south.result.second ≤ length c.args.boxes.now / 4 * 2 =
-    let xs = c.args.boxes.now in
-    let e = c.append_two_corners-south.ensures in
-    omega (arith, few _ xs e.first.few, few _ xs e.second.few) in
-    let m = c.append_two_corners-south.result in
-    let n = c.append_two_corners-north.result in
-    corners_written (boxes_of c.args.boxes.now) c.args.answer.now c.append_two_corners-south.new.answer c.append_two_corners-north.new.answer
-    m.first m.second n.first n.second (omega (arith, few-south, c.requires.box_list.1)) c.append_two_corners-south.ensures c.append_two_corners-north.ensures
+    let l = c.args.boxes.numbers.now in
+    let s = c.append_two_corners-south in
+    let n = c.append_two_corners-north in
+    corners_written (boxes_of l) c.args.answer.now s.new.answer n.new.answer s.result.first s.result.second n.result.first n.result.second
+    (omega (arith, two_few l SouthWest SouthEast s.result s.ensures, c.requires.answer_room)) s.ensures n.ensures
