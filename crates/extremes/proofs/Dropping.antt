@@ -6,6 +6,8 @@ use Rattle.std.specs.Int.{from_bool}
 use native.Mathlib.Decide.{dec_lt}
 use Rattle.orders.specs.Order.{get, EachAmong}
 use Rattle.turns.specs.Keys.{east_part, north_part, AllKeys}
+use Rattle.extremes.specs.declared.Far.{Far}
+use Rattle.extremes.specs.declared.Rectangle.{Rectangle}
 use Rattle.extremes.specs.Inner.{Among, Lesser, Greater, FarKeys, Bounds, InRectangle, Inner, Kept, Outer}
 
 -- ---- the least and the greatest of two numbers
@@ -82,18 +84,17 @@ taken f l i h k q e = ⊎_elim (λ z. (k.0, k.1, z ∙ k.2)) (λ z. (i, h, z ∙
 
 -- ---- keys in a rectangle beyond whose corners four keys lie
 
-module _ {old new : List ℕ} {n ne nw sw se west east south north : ℕ} (c : FarKeys (λ x. x) (λ x. x) old ne nw sw se) (b : Bounds ne nw sw se west east south north)
-    (k : Kept old new n (λ x. InRectangle x west east south north)) where
+module _ {old new : List ℕ} {n : ℕ} {far : Far} {box : Rectangle} (c : FarKeys (λ x. x) (λ x. x) old far) (b : Bounds far box) (k : Kept old new n (λ x. InRectangle x box)) where
   -- the four are kept
-  corner : (x : ℕ) → Among (get old) (length old) x → (InRectangle x west east south north → ⊥) → Among (get new) n x
-  corner x m f = ⊎_elim (λ r. (r.0, r.1, m.2 ∙ r.2)) (λ i. absurd (f (subst (λ y. InRectangle y west east south north) (sym m.2) i))) (k.rest m.0 m.1)
+  corner : (x : ℕ) → Among (get old) (length old) x → (InRectangle x box → ⊥) → Among (get new) n x
+  corner x m f = ⊎_elim (λ r. (r.0, r.1, m.2 ∙ r.2)) (λ i. absurd (f (subst (λ y. InRectangle y box) (sym m.2) i))) (k.rest m.0 m.1)
 
-  around : (x : ℕ) → InRectangle x west east south north → Inner (get new) n x
+  around : (x : ℕ) → InRectangle x box → Inner (get new) n x
   around x i =
-      let p = corner ne c.north_east (λ j. omega (arith, j.past_east, b.east_ne)) in
-      let q = corner nw c.north_west (λ j. omega (arith, j.past_west, b.west_nw)) in
-      let r = corner sw c.south_west (λ j. omega (arith, j.past_west, b.west_sw)) in
-      let s = corner se c.south_east (λ j. omega (arith, j.past_east, b.east_se)) in
+      let p = corner far.ne c.north_east (λ j. omega (arith, j.past_east, b.east_ne)) in
+      let q = corner far.nw c.north_west (λ j. omega (arith, j.past_west, b.west_nw)) in
+      let r = corner far.sw c.south_west (λ j. omega (arith, j.past_west, b.west_sw)) in
+      let s = corner far.se c.south_east (λ j. omega (arith, j.past_east, b.east_se)) in
       record {
         north_east = (p.0, p.1, at p.2 (omega (arith, b.east_ne, i.past_east)), up p.2 (omega (arith, b.north_ne, i.past_north)));
         north_west = (q.0, q.1, back q.2 (omega (arith, b.west_nw, i.past_west)), up q.2 (omega (arith, b.north_nw, i.past_north)));
@@ -128,9 +129,6 @@ undropped l = record { few = omega arith; kept = record { find = λ i h. (i, h, 
 -- ---- the keys that are left, as a callee sees them
 
 module _ (old new : List ℕ) (n : ℕ) (h : n ≤ length new) (o : Outer old new n) where
-  pub outer_some : 1 ≤ length old → 1 ≤ n
-  outer_some l = ⊎_elim (λ r. omega (arith, r.1)) (λ r. omega (arith, r.north_east.1)) (o.rest 0 (omega arith))
-
   front_inner : {k : ℕ} → Inner (get new) n k → Inner (get (take n new)) (length (take n new)) k
   front_inner {k} i =
       let e = length-take-le n new h in

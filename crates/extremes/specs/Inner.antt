@@ -3,6 +3,8 @@
 use Rattle.std.specs.Prelude.{◌≡◌, ℕ, ◌<◌, ◌≤◌, ◌⊎◌, List, length}
 use Rattle.orders.specs.Order.{get, EachAmong}
 use Rattle.turns.specs.Keys.{east_part, north_part}
+use Rattle.extremes.specs.declared.Far.{Far}
+use Rattle.extremes.specs.declared.Rectangle.{Rectangle}
 
 -- x is one of the first n numbers of f
 abbrev pub Among : (ℕ → ℕ) → ℕ → ℕ → Type 0
@@ -28,29 +30,29 @@ pub record Greater (a b r : ℕ) : Type 0 where
   pub either : (r ≡ a) ⊎ (r ≡ b)
 
 -- what sum gives to two keys of a list, and difference to two
-pub record FarKeys (sum difference : ℕ → ℕ) (l : List ℕ) (ne nw sw se : ℕ) : Type 0 where
-  pub north_east : Among (λ j. sum (get l j)) (length l) ne
-  pub north_west : Among (λ j. difference (get l j)) (length l) nw
-  pub south_west : Among (λ j. sum (get l j)) (length l) sw
-  pub south_east : Among (λ j. difference (get l j)) (length l) se
+pub record FarKeys (sum difference : ℕ → ℕ) (l : List ℕ) (far : Far) : Type 0 where
+  pub north_east : Among (λ j. sum (get l j)) (length l) far.ne
+  pub north_west : Among (λ j. difference (get l j)) (length l) far.nw
+  pub south_west : Among (λ j. sum (get l j)) (length l) far.sw
+  pub south_east : Among (λ j. difference (get l j)) (length l) far.se
 
 -- a rectangle that does not reach as far as four keys, each beyond one of its corners
-pub record Bounds (ne nw sw se west east south north : ℕ) : Type 0 where
-  pub west_nw : east_part nw < west
-  pub west_sw : east_part sw < west
-  pub east_ne : east ≤ east_part ne
-  pub east_se : east ≤ east_part se
-  pub south_sw : north_part sw < south
-  pub south_se : north_part se < south
-  pub north_ne : north ≤ north_part ne
-  pub north_nw : north ≤ north_part nw
+pub record Bounds (far : Far) (r : Rectangle) : Type 0 where
+  pub west_nw : east_part far.nw < r.west
+  pub west_sw : east_part far.sw < r.west
+  pub east_ne : r.east ≤ east_part far.ne
+  pub east_se : r.east ≤ east_part far.se
+  pub south_sw : north_part far.sw < r.south
+  pub south_se : north_part far.se < r.south
+  pub north_ne : r.north ≤ north_part far.ne
+  pub north_nw : r.north ≤ north_part far.nw
 
 -- k is in a rectangle
-pub record InRectangle (k west east south north : ℕ) : Type 0 where
-  pub past_west : west ≤ east_part k
-  pub past_east : east_part k < east
-  pub past_south : south ≤ north_part k
-  pub past_north : north_part k < north
+pub record InRectangle (k : ℕ) (r : Rectangle) : Type 0 where
+  pub past_west : r.west ≤ east_part k
+  pub past_east : east_part k < r.east
+  pub past_south : r.south ≤ north_part k
+  pub past_north : north_part k < r.north
 
 -- some of the first n keys of f is strictly in each quadrant round k
 pub record Inner (f : ℕ → ℕ) (n k : ℕ) : Type 0 where

@@ -39,7 +39,7 @@ struct Rectangle {
 // difference. Only that they are keys of the list is promised: which they are decides how many others can be dropped.
 fn find_far(keys: &[u32]) -> Far
     requires { (1 ≤ length keys.now) × AllKeys (get keys.now) (length keys.now) }
-    ensures { FarKeys (λ k. k) (λ k. k) keys.now result.ne result.nw result.sw result.se }
+    ensures { FarKeys (λ k. k) (λ k. k) keys.now result }
 {
     let first = keys[0];
     let mut ne = turns::sum_of(first);
@@ -64,7 +64,7 @@ fn find_far(keys: &[u32]) -> Far
 
 // The largest rectangle that does not reach as far as the four keys.
 fn between_far(far: Far) -> Rectangle
-    ensures { Bounds far.ne far.nw far.sw far.se result.west result.east result.south result.north }
+    ensures { Bounds far result }
 {
     let west = turns::east_part(far.nw).max(turns::east_part(far.sw)) + 1;
     let east = turns::east_part(far.ne).min(turns::east_part(far.se));
@@ -87,7 +87,7 @@ fn is_from(x: u32, low: u32, high: u32) -> bool
 
 // Whether a key is outside the rectangle; if not, it is in it.
 fn is_outside(key: u32, r: Rectangle) -> bool
-    ensures { result ≡ false → InRectangle key r.west r.east r.south r.north }
+    ensures { result ≡ false → InRectangle key r }
 {
     let inside = is_from(turns::east_part(key), r.west, r.east)
         & is_from(turns::north_part(key), r.south, r.north);
@@ -96,8 +96,7 @@ fn is_outside(key: u32, r: Rectangle) -> bool
 
 // Moves the keys that are not in the rectangle to the front, and counts them.
 fn keep_outside(keys: &mut [u32], r: Rectangle) -> usize
-    ensures { Kept keys.old keys.new result
-        (λ k. InRectangle k r.west r.east r.south r.north) }
+    ensures { Kept keys.old keys.new result (λ k. InRectangle k r) }
 {
     let mut n: usize = 0;
     for i in 0..keys.len() {

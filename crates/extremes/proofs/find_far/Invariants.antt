@@ -5,4 +5,4 @@ use Rattle.extremes.specs.Inner.{FarKeys}
 use Rattle.extremes.proofs.find_far.Given as goal
 
 abbrev pub invariant-loop-key : goal.invariant-loop-key
-invariant-loop-key l = (l.key-index ≤ length l.keys) × FarKeys sum_of difference_of l.keys l.ne l.nw l.sw l.se
+invariant-loop-key l = (l.key-index ≤ length l.keys) × FarKeys sum_of difference_of l.keys (record { ne = l.ne; nw = l.nw; sw = l.sw; se = l.se })

@@ -4,4 +4,4 @@ use Rattle.extremes.proofs.Dropping.{Keeping}
 use Rattle.extremes.proofs.keep_outside.Given as goal
 
 abbrev pub invariant-loop-i : goal.invariant-loop-i
-invariant-loop-i l = Keeping l.initial.keys l.keys l.i l.n (λ k. InRectangle k l.r.west l.r.east l.r.south l.r.north)
+invariant-loop-i l = Keeping l.initial.keys l.keys l.i l.n (λ k. InRectangle k l.fn.r)
