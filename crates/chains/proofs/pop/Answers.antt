@@ -30,9 +30,6 @@ at-gone s r k n f h j l o = go (dec_lt (suc j) n)
         rw (a, b) at h
     go (no z) = f j (omega arith) o
 
-pub loop-n-init : goal.loop-n-init
-loop-n-init c = (omega arith, λ j e l. absurd (omega arith))
-
 pub returns-then-turns_right : goal.returns-then-turns_right
 returns-then-turns_right c =
     let l = c.loop-n in

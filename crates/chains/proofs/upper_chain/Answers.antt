@@ -6,11 +6,10 @@ use Prim.Native.Nat.{ℕ, suc, ◌+◌, ◌≤◌, ◌<◌}
 use native.Mathlib.Numerals.{add-one}
 use native.Mathlib.Omega.{arith}
 use lib.ListN.{length, set, length-set}
-use lib.Seq.{get_or-set_same}
 use Rattle.orders.specs.Order.{get, Sorted}
 use Rattle.turns.specs.Keys.{Key, AllKeys}
 use Rattle.chains.specs.Chains.{Chain, Popped, Amid, framed}
-use Rattle.chains.proofs.Chaining.{chain_keys, single, next}
+use Rattle.chains.proofs.Chaining.{chain_keys, next}
 use Rattle.chains.proofs.Framing.{framed_at, framed_last, framed_keys, framed_above, framed_sorted}
 use Rattle.chains.proofs.upper_chain.Goals as goal
 
@@ -31,9 +30,6 @@ module _ (first : ℕ) (keys : List ℕ) (last : ℕ) (stack : List ℕ) (m k : 
       let d : suc (suc m) ≡ length keys + 2 = omega arith in
       subst (λ i. Chain (framed first keys last) i (get (set stack n last)) (n + 1)) d
       (step n last h s (omega arith) (sym (framed_last first keys last) ∙ ap (λ i. framed first keys last (suc i)) e) p)
-
-pub loop-r-init : goal.loop-r-init
-loop-r-init c = single _ _ (get_or-set_same c.args.stack.now 0 _ 0 (omega (arith, c.requires.keys_in_bounds)))
 
 pub pop-n-requires-clause-all_keys : goal.pop-n-requires-clause-all_keys
 pop-n-requires-clause-all_keys c =
