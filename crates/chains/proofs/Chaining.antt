@@ -24,20 +24,6 @@ among ks w = record { key = λ i h. let r = w.find i h in subst Key (sym r.2) (k
 pub chain_keys : {q s : ℕ → ℕ} {m n k : ℕ} → AllKeys q n → m ≤ n → Chain q m s k → AllKeys s k
 chain_keys ks h ch = among ks (record { find = λ j l. let r = ch.from j l in (r.0, omega (arith, r.1), r.2) })
 
--- one key is a chain
-pub single : (q s : ℕ → ℕ) → s 0 ≡ q 0 → Chain q 1 s 1
-single q s e =
-    record {
-      some = omega arith;
-      few = omega arith;
-      first = e;
-      last = λ i j h k. let a : i ≡ 0 = omega arith in let b : j ≡ 0 = omega arith in rw (a, b) e;
-      from = λ j h. let b : j ≡ 0 = omega arith in (0, omega arith, rw b e);
-      rising = λ j h. absurd (omega arith);
-      bends = λ j h. absurd (omega arith);
-      right = λ i j h k. absurd (omega arith);
-    }
-
 -- the next key q m, which is greater than those before it, pushed after popping: s' is s below n, and that key at n
 module _ (q : ℕ → ℕ) (m : ℕ) (s : ℕ → ℕ) (k n : ℕ) (srt : Sorted q 0 (suc m)) (fresh : (i : ℕ) → i < m → q i < q m) (ch : Chain q m s k)
     (pop : Popped s k (q m) n) where
