@@ -3,7 +3,7 @@ use Rattle.std.specs.Option.{option_or}
 use Rattle.std.specs.Prelude.{Option, Some, None}
 use Prim.Native.Nat.{ℕ}
 use mathlib.Core.Path.{◌≡◌, refl, sym, subst}
-use mathlib.Core.List.{List, map}
+use mathlib.Core.List.{List, [], ◌∷◌, map}
 use lib.IntN.{pos}
 use Rattle.plane.specs.declared.Point.{Point}
 use Rattle.plane.specs.Vectors.{from, Supported}
@@ -128,3 +128,8 @@ support_says k hk bs h view o =
 pub support_found : (k : ℕ) → Key k → (bs : List Box) → All BoxInSpan bs → (view : View) → CornerViewSays bs SouthWest (point_of k) view → {r : Option Direction} → r ≡ support_of k bs view
     → SupportSays bs (point_of k) r
 support_found k hk bs h view o e = subst (λ r. SupportSays bs (point_of k) r) (sym e) (support_says k hk bs h view o)
+
+-- the first direction that those corners of every box give
+abbrev pub first_support : ℕ → List Box → List Corner → Option Direction
+first_support plug bs [] = None
+first_support plug bs (c ∷ cs) = option_or (support_of_corner plug c bs) (first_support plug bs cs)

@@ -43,11 +43,10 @@ fn support_by(cone: Cone, corner: Corner, plug: u32) -> Option<Direction>
             east: 1,
             north: 0,
         }),
-        Cone::Ray(a) => Some(square_to(a, corner, plug)),
-        Cone::Line(a, _) => Some(square_to(a, corner, plug)),
-        Cone::Wedge(a, _) => Some(square_to(a, corner, plug)),
-        Cone::Half(a, _) => Some(square_to(a, corner, plug)),
-        Cone::Around(_, _, _) => None,
+        Cone::Ray(a) | Cone::Line(a, _) | Cone::Wedge(a, _) | Cone::Half(a, _) => {
+            Some(square_to(a, corner, plug))
+        }
+        Cone::Around(..) => None,
     }
 }
 
@@ -85,9 +84,7 @@ fn support_at(boxes: Boxes, corner: Corner, plug: u32, southwest: Cone) -> Optio
             return None;
         }
     }
-    let view = views::view_of(boxes, corner, plug);
-    let cone = view.cone;
-    support_by(cone, corner, plug)
+    support_by(views::view_of(boxes, corner, plug).cone, corner, plug)
 }
 
 // What the four corners of the boxes tell the first driver, where the south-west corners' view is known.
@@ -97,18 +94,14 @@ pub fn support_of(boxes: Boxes, plug: u32, view: View) -> Option<Direction>
     ensures exact { result ≡ support_of plug (boxes_of boxes.entry.numbers.now) view }
     ensures supports { SupportSays (boxes_of boxes.entry.numbers.now) (point_of plug) result }
 {
-    let cone = view.cone;
-    let sw = support_by(cone, Corner::SouthWest, plug);
-    if let Some(direction) = sw {
+    let southwest = view.cone;
+    if let Some(direction) = support_by(southwest, Corner::SouthWest, plug) {
         return Some(direction);
     }
-    let se = support_at(boxes, Corner::SouthEast, plug, cone);
-    if let Some(direction) = se {
-        return Some(direction);
+    for corner in [Corner::SouthEast, Corner::NorthEast, Corner::NorthWest] {
+        if let Some(direction) = support_at(boxes, corner, plug, southwest) {
+            return Some(direction);
+        }
     }
-    let ne = support_at(boxes, Corner::NorthEast, plug, cone);
-    if let Some(direction) = ne {
-        return Some(direction);
-    }
-    support_at(boxes, Corner::NorthWest, plug, cone)
+    None
 }

@@ -21,14 +21,14 @@ returns-then-is_in_triangle c =
     let e = corner_surrounds c.args.plug c.args.corner (boxes_of c.args.boxes.numbers.now) (c.is_in_triangle.ensures.surrounded c.if-is_in_triangle.true) c.args.boxes.accepted.in_span in
     record { exact = e; supports = corner_found c.args.plug c.requires.key c.args.corner (boxes_of c.args.boxes.numbers.now) c.args.boxes.accepted.in_span e }
 
-pub view_of-view-requires : goal.view_of-view-requires
-view_of-view-requires c = c.requires.key
+pub view_of-requires : goal.view_of-requires
+view_of-requires c = c.requires.key
 
 pub support_by-requires : goal.support_by-requires
 support_by-requires c =
-    (c.requires.key, subst (λ (v : View). Keyed v.cone) (sym c.view_of-view.ensures.exact) (view_keyed c.args.plug (boxes_of c.args.boxes.numbers.now) c.args.boxes.accepted.in_span c.args.corner))
+    (c.requires.key, subst (λ (v : View). Keyed v.cone) (sym c.view_of.ensures.exact) (view_keyed c.args.plug (boxes_of c.args.boxes.numbers.now) c.args.boxes.accepted.in_span c.args.corner))
 
 pub returns : goal.returns
 returns c =
-    let e = c.support_by.ensures.exact ∙ ap (λ (w : View). support_of_cone c.args.plug w.cone c.args.corner) c.view_of-view.ensures.exact in
+    let e = c.support_by.ensures.exact ∙ ap (λ (w : View). support_of_cone c.args.plug w.cone c.args.corner) c.view_of.ensures.exact in
     record { exact = e; supports = corner_found c.args.plug c.requires.key c.args.corner (boxes_of c.args.boxes.numbers.now) c.args.boxes.accepted.in_span e }

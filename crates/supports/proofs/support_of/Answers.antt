@@ -1,72 +1,63 @@
 -- `supports::support_of` meets its contract: the first corner that gives a direction, or none does. Assumes nothing.
 use Rattle.std.specs.Option.{option_or}
-use Rattle.std.specs.Prelude.{Option, None}
-use mathlib.Core.Path.{◌≡◌, sym, ◌∙◌, ap}
-use mathlib.Core.List.{List}
-use Prim.Native.Nat.{ℕ}
+use Rattle.std.specs.Prelude.{Option, Some, None}
+use mathlib.Core.Path.{◌≡◌, refl, sym, ◌∙◌, ap}
+use mathlib.Core.List.{List, [], ◌∷◌}
+use Prim.Native.Nat.{ℕ, suc, ◌+◌, ◌<◌}
+use native.Mathlib.Omega.{arith}
+use lib.ListN.{get_or, drop, drop_of_length-le}
+use lib.Seq.{drop-cons}
 use Rattle.turns.specs.Keys.{point_of}
 use Rattle.rounds.specs.Boxes.{boxes_of, corners_of}
 use Rattle.rounds.specs.declared.Box.{Box}
-use Rattle.rounds.specs.declared.Corner.TheVariants.{SouthWest, SouthEast, NorthEast, NorthWest}
+use Rattle.rounds.specs.declared.Corner.{Corner}
 use Rattle.rounds.specs.declared.Direction.{Direction}
+use Rattle.rounds.specs.declared.Corner.TheVariants.{SouthWest, SouthEast, NorthEast, NorthWest}
 use Rattle.cones.proofs.Wider.{says_keyed}
-use Rattle.views.specs.declared.View.{View}
-use Rattle.supports.specs.Supporting.{support_of_cone, support_of_corner, support_of}
-use Rattle.supports.proofs.Answering.{support_found}
+use Rattle.supports.specs.Supporting.{support_of_corner}
+use Rattle.supports.proofs.Answering.{first_support, support_found}
 use Rattle.supports.proofs.support_of.Goals as goal
 
--- what each corner of every box gives
-module _ (plug : ℕ) (bs : List Box) (view : View) where
-  abbrev sw : Option Direction
-  sw = support_of_cone plug view.cone SouthWest
+or-none : (o : Option Direction) → o ≡ option_or o None
+or-none None = refl
+or-none (Some d) = refl
 
-  abbrev se : Option Direction
-  se = support_of_corner plug SouthEast bs
+-- the corners that are tried behind the south-west one
+abbrev others : List Corner
+others = SouthEast ∷ NorthEast ∷ NorthWest ∷ []
 
-  abbrev ne : Option Direction
-  ne = support_of_corner plug NorthEast bs
+-- the corner at i, and those behind it
+step : (plug : ℕ) (bs : List Box) (i : ℕ) (d : Corner) {r : Option Direction} → i < 3 → r ≡ support_of_corner plug (get_or others i d) bs
+    → first_support plug bs (drop i others) ≡ option_or r (first_support plug bs (drop (i + 1) others))
+step plug bs i d {r} h e =
+    let n : suc i ≡ i + 1 = omega arith in
+    ap (first_support plug bs) (drop-cons others i d h)
+    ∙ ap (λ o. option_or o (first_support plug bs (drop (suc i) others))) (sym e)
+    ∙ ap (λ k. option_or r (first_support plug bs (drop k others))) n
 
-  abbrev nw : Option Direction
-  nw = support_of_corner plug NorthWest bs
-
-  abbrev answer : Option Direction
-  answer = support_of plug bs view
-
-  -- the first that gives one
-  by-sw : {r : Option Direction} → sw ≡ r → option_or r (option_or se (option_or ne nw)) ≡ answer
-  by-sw e = ap (λ x. option_or x (option_or se (option_or ne nw))) (sym e)
-
-  by-se : {r : Option Direction} → sw ≡ None → se ≡ r → option_or r (option_or ne nw) ≡ answer
-  by-se e f = ap (λ x. option_or x (option_or ne nw)) (sym f) ∙ by-sw e
-
-  by-ne : {r : Option Direction} → sw ≡ None → se ≡ None → ne ≡ r → option_or r nw ≡ answer
-  by-ne e f g = ap (λ x. option_or x nw) (sym g) ∙ by-se e f
-
-pub support_by-sw-requires : goal.support_by-sw-requires
-support_by-sw-requires c =
+pub support_by-requires : goal.support_by-requires
+support_by-requires c =
     let bs = boxes_of c.args.boxes.numbers.now in
     (c.requires.key, says_keyed bs (corners_of SouthWest bs) (point_of c.args.plug) c.args.view.cone c.requires.corner_view_says.of_cone)
 
-pub returns-in-Some : goal.returns-in-Some
-returns-in-Some c =
-    let e = by-sw c.args.plug (boxes_of c.args.boxes.numbers.now) c.args.view (sym c.support_by-sw.ensures.exact ∙ c.in-Some.is) in
-    record { exact = e; supports = support_found c.args.plug c.requires.key (boxes_of c.args.boxes.numbers.now) c.args.boxes.accepted.in_span c.args.view c.requires.corner_view_says e }
-
-pub returns-in-Some-se : goal.returns-in-Some-se
-returns-in-Some-se c =
-    let e = by-se c.args.plug (boxes_of c.args.boxes.numbers.now) c.args.view (sym c.support_by-sw.ensures.exact ∙ c.in_default.is) (sym c.support_at-se.ensures.exact ∙ c.in-Some-se.is) in
-    record { exact = e; supports = support_found c.args.plug c.requires.key (boxes_of c.args.boxes.numbers.now) c.args.boxes.accepted.in_span c.args.view c.requires.corner_view_says e }
-
-pub returns-in-Some-ne : goal.returns-in-Some-ne
-returns-in-Some-ne c =
+pub loop-corner-init : goal.loop-corner-init
+loop-corner-init c =
+    let plug = c.args.plug in
     let bs = boxes_of c.args.boxes.numbers.now in
-    let e = by-ne c.args.plug bs c.args.view (sym c.support_by-sw.ensures.exact ∙ c.in_default.is) (sym c.support_at-se.ensures.exact ∙ c.in_default-se.is) (sym c.support_at-ne.ensures.exact ∙ c.in-Some-ne.is) in
-    record { exact = e; supports = support_found c.args.plug c.requires.key (boxes_of c.args.boxes.numbers.now) c.args.boxes.accepted.in_span c.args.view c.requires.corner_view_says e }
+    let behind = λ (o : Option Direction). option_or o (option_or (support_of_corner plug SouthEast bs) (option_or (support_of_corner plug NorthEast bs) (support_of_corner plug NorthWest bs))) in
+    ap behind (sym c.in_default.ensures.exact)
+    ∙ ap (λ o. option_or (support_of_corner plug SouthEast bs) (option_or (support_of_corner plug NorthEast bs) o)) (or-none (support_of_corner plug NorthWest bs))
+
+pub loop-corner-preserved : goal.loop-corner-preserved
+loop-corner-preserved c =
+    c.loop-corner.invariant ∙ step c.args.plug (boxes_of c.args.boxes.numbers.now) c.loop-corner.corner-index _ c.loop-corner-test.true c.in_default-support_at.ensures.exact
+
+pub returns-in-Some-support_at-clause-exact : goal.returns-in-Some-support_at-clause-exact
+returns-in-Some-support_at-clause-exact c =
+    sym (c.loop-corner.invariant ∙ step c.args.plug (boxes_of c.args.boxes.numbers.now) c.loop-corner.corner-index _ c.loop-corner-test.true c.in-Some-support_at.ensures.exact)
 
 pub returns : goal.returns
 returns c =
     let bs = boxes_of c.args.boxes.numbers.now in
-    let e =
-    c.support_at.ensures.exact
-    ∙ by-ne c.args.plug bs c.args.view (sym c.support_by-sw.ensures.exact ∙ c.in_default.is) (sym c.support_at-se.ensures.exact ∙ c.in_default-se.is) (sym c.support_at-ne.ensures.exact ∙ c.in_default-ne.is) in
-    record { exact = e; supports = support_found c.args.plug c.requires.key (boxes_of c.args.boxes.numbers.now) c.args.boxes.accepted.in_span c.args.view c.requires.corner_view_says e }
+    let e = sym (c.loop-corner.invariant ∙ ap (first_support c.args.plug bs) (drop_of_length-le others {i = c.loop-corner.corner-index} (omega arith))) in
+    record { exact = e; supports = support_found c.args.plug c.requires.key bs c.args.boxes.accepted.in_span c.args.view c.requires.corner_view_says e }
