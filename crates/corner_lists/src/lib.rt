@@ -19,8 +19,7 @@ pub fn put_corner_keys(boxes: Boxes, corner: Corner, keys: &mut [u32])
     requires { length boxes.numbers.now / 4 ≤ length keys.old }
     ensures { KeysOf (corners_of corner (boxes_of boxes.entry.numbers.now)) keys.new }
 {
-    let count = boxes.len();
-    for k in 0..count {
+    for k in 0..boxes.len() {
         keys[k] = corners::corner_key(boxes, k, corner);
     }
 }

@@ -11,13 +11,9 @@ pub fn write_vertices(keys: &[u32], answer: &mut [i32])
     requires { All Key keys.now × (length keys.now * 2 ≤ length answer.old) }
     ensures { answer.new ≡ over_front (flat (map point_of keys.now)) answer.old }
 {
-    let count = keys.len();
-    let mut k: usize = 0;
-    while k < count {
-        let at = k * 2;
-        answer[at] = turns::east_of(keys[k]);
-        answer[at + 1] = turns::north_of(keys[k]);
-        k += 1;
+    for k in 0..keys.len() {
+        answer[k * 2] = turns::east_of(keys[k]);
+        answer[k * 2 + 1] = turns::north_of(keys[k]);
     }
 }
 
@@ -27,9 +23,5 @@ pub fn clear(from: usize, to: usize, answer: &mut [i32])
     ensures { answer.new ≡
         take from answer.old ++ zeros (to - from) ++ drop to answer.old }
 {
-    let mut k = from;
-    while k < to {
-        answer[k] = 0;
-        k += 1;
-    }
+    answer[from..to].fill(0);
 }

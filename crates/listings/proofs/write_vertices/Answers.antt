@@ -4,7 +4,7 @@ use mathlib.Core.List.{List, map}
 use Prim.Native.Nat.{ℕ, ◌+◌, ◌*◌, ◌<◌}
 use native.Mathlib.Omega.{arith}
 use lib.IntN.{ℤ, pos}
-use lib.ListN.{length, get_or, length-set, length-map}
+use lib.ListN.{length, get_or, length-map}
 use mir.Syntax.{w32}
 use mir.Val.{SFits, to_z, of_z}
 use mir.ValLaws.{to_z-of_z}
@@ -26,49 +26,13 @@ module _ (ks : List ℕ) (i : ℕ) (r : ℤ) (l : i < length ks) (f : SFits w32 
       to_z-of_z w32 r f ∙ e ∙ sym (flat_north (point_of 0) (map point_of ks) i (omega (arith, length-map ks point_of)) ∙ ap (λ q. q.north) (map_at point_of 0 (point_of 0) ks i l))
 
 pub loop-k-init : goal.loop-k-init
-loop-k-init c = (omega arith, refl, refl)
-
-pub overflow_mul-at : goal.overflow_mul-at
-overflow_mul-at c = omega arith
-
-pub offset_bounds-keys-k : goal.offset_bounds-keys-k
-offset_bounds-keys-k c = omega arith
-
-pub bounds-keys-k : goal.bounds-keys-k
-bounds-keys-k c = omega arith
+loop-k-init c = refl
 
 pub east_of-requires : goal.east_of-requires
 east_of-requires c = index_of_all 0 c.requires.0 c.loop-k.k (omega arith)
 
-pub offset_bounds-answer-at : goal.offset_bounds-answer-at
-offset_bounds-answer-at c = omega arith
-
-pub bounds-answer-at : goal.bounds-answer-at
-bounds-answer-at c = omega arith
-
-pub offset_bounds-keys-k-in-loop-k : goal.offset_bounds-keys-k-in-loop-k
-offset_bounds-keys-k-in-loop-k c = omega arith
-
-pub bounds-keys-k-in-loop-k : goal.bounds-keys-k-in-loop-k
-bounds-keys-k-in-loop-k c = omega arith
-
 pub north_of-requires : goal.north_of-requires
 north_of-requires c = index_of_all 0 c.requires.0 c.loop-k.k (omega arith)
-
-pub overflow_add-at : goal.overflow_add-at
-overflow_add-at c = omega arith
-
-pub offset_bounds-answer-at-in-loop-k : goal.offset_bounds-answer-at-in-loop-k
-offset_bounds-answer-at-in-loop-k c = omega arith
-
-pub bounds-answer-at-in-loop-k : goal.bounds-answer-at-in-loop-k
-bounds-answer-at-in-loop-k c = simp length-set (omega arith)
-
-pub overflow_add-k : goal.overflow_add-k
-overflow_add-k c = omega arith
-
-pub loop-k-smaller : goal.loop-k-smaller
-loop-k-smaller c = omega arith
 
 pub loop-k-preserved : goal.loop-k-preserved
 loop-k-preserved c =
@@ -80,17 +44,11 @@ loop-k-preserved c =
     let twice : length (flat vs) ≡ length ks * 2 = flat_length vs ∙ ap (λ m. m * 2) (length-map ks point_of) in
     let next : l.k * 2 + 1 + 1 ≡ (l.k + 1) * 2 = omega arith in
     let east = east_is ks l.k e.result (omega arith) (ok e.result e.type_inv) e.ensures in
-    let north = north_is ks l.k n.result (omega arith) (ok n.result n.type_inv) n.ensures in (
-      omega arith,
-      simp length-set l.invariant.1,
-      two_more (flat vs) c.args.answer.now l.answer (l.k * 2) _ _ (omega arith) (omega arith) l.invariant.2 east north ∙ ap (partly (flat vs) c.args.answer.now) next,
-    )
-
-pub shape_of-answer : goal.shape_of-answer
-shape_of-answer c = c.loop-k.invariant.1
+    let north = north_is ks l.k n.result (omega arith) (ok n.result n.type_inv) n.ensures in
+    two_more (flat vs) c.args.answer.now l.answer (l.k * 2) _ _ (omega arith) (omega arith) l.invariant east north ∙ ap (partly (flat vs) c.args.answer.now) next
 
 pub returns : goal.returns
 returns c =
     let l = c.loop-k in
     let vs = map point_of c.args.keys.now in
-    l.invariant.2 ∙ partly_all (flat vs) c.args.answer.now (l.k * 2) (omega (arith, flat_length vs, length-map c.args.keys.now point_of))
+    l.invariant ∙ partly_all (flat vs) c.args.answer.now (l.k * 2) (omega (arith, flat_length vs, length-map c.args.keys.now point_of))
