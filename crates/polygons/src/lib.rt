@@ -2,7 +2,7 @@
 // vertex. Scratch is chosen here, once for each.
 #![tactic(auto)]
 
-ghost use Rattle.std.specs.Prelude.{◌+◌, ◌*◌, ◌/◌, ◌≤◌, length};
+ghost use Rattle.std.specs.Prelude.{◌+◌, ◌*◌, ◌/◌, ◌^◌, ◌≤◌, ◌<◌, length};
 ghost use Rattle.rounds.specs.Boxes.{boxes_of, corners_of, all_corners};
 ghost use Rattle.outlines.specs.Outlines.{ScratchFor, OuterRoom};
 ghost use Rattle.listings.specs.Listings.{needed};
@@ -57,6 +57,23 @@ fn write_outer_in(
     count
 }
 
+// Writes the outer polygon over the front of answer, in scratch of these sizes.
+fn write_outer_sized<const VERTICES: usize, const KEYS: usize>(
+    boxes: Boxes,
+    answer: &mut [i32],
+) -> usize
+    requires answer_room { length boxes.numbers.now * 2 ≤ length answer.old }
+    requires vertices_room { (4 * (length boxes.numbers.now / 4) + 3 ≤ VERTICES) × (VERTICES < 2 ^ 32) }
+    requires keys_room { (2 * (length boxes.numbers.now / 4) + 3 ≤ KEYS) × (KEYS < 2 ^ 32) }
+    ensures { PolygonWritten
+        (all_corners (boxes_of boxes.entry.numbers.now)) 0 answer.old result answer.new }
+{
+    let mut vertices = [0u32; VERTICES];
+    let mut keys = [0u32; KEYS];
+    let mut list = [0u32; KEYS];
+    write_outer_in(boxes, answer, &mut vertices, &mut keys, &mut list)
+}
+
 // Writes the outer polygon over the front of answer.
 pub fn write_outer(boxes: Boxes, answer: &mut [i32]) -> usize
     requires { length boxes.numbers.now * 2 ≤ length answer.old }
@@ -65,124 +82,105 @@ pub fn write_outer(boxes: Boxes, answer: &mut [i32]) -> usize
 {
     let count = boxes.len();
     if count <= FEW_BOXES {
-        let mut vertices = [0u32; FEW_VERTICES];
-        let mut keys = [0u32; FEW_KEYS];
-        let mut list = [0u32; FEW_KEYS];
-        return write_outer_in(boxes, answer, &mut vertices, &mut keys, &mut list);
+        return write_outer_sized::<FEW_VERTICES, FEW_KEYS>(boxes, answer);
     }
     if count <= SOME_BOXES {
-        let mut vertices = [0u32; SOME_VERTICES];
-        let mut keys = [0u32; SOME_KEYS];
-        let mut list = [0u32; SOME_KEYS];
-        return write_outer_in(boxes, answer, &mut vertices, &mut keys, &mut list);
+        return write_outer_sized::<SOME_VERTICES, SOME_KEYS>(boxes, answer);
     }
-    let mut vertices = [0u32; MOST_VERTICES];
-    let mut keys = [0u32; MOST_KEYS];
-    let mut list = [0u32; MOST_KEYS];
-    write_outer_in(boxes, answer, &mut vertices, &mut keys, &mut list)
+    write_outer_sized::<MOST_VERTICES, MOST_KEYS>(boxes, answer)
 }
 
-// Writes the polygon of that one corner of every box over the front of answer, in lent scratch. What the scratch
-// holds is lost.
-fn write_corner(
-    boxes: Boxes,
-    corner: Corner,
-    answer: &mut [i32],
-    vertices: &mut [u32],
-    keys: &mut [u32],
-    mirror: &mut [u32],
-) -> usize
-    requires answer_room { length boxes.numbers.now / 4 * 2 ≤ length answer.old }
-    requires boxes_in_bounds { length boxes.numbers.now / 4 ≤ length vertices.old }
-    requires scratch_for { ScratchFor (length boxes.numbers.now / 4) keys.old mirror.old }
-    ensures { PolygonWritten
-        (corners_of corner (boxes_of boxes.entry.numbers.now)) 0 answer.old result answer.new }
-{
-    let count = outlines::corner_outline(boxes, corner, vertices, keys, mirror);
-    listings::write_vertices(&vertices[..count], answer);
-    count
+// Scratch for the corner polygons of so many boxes. What it holds is lost at each call.
+#[derive(Drop)]
+struct Scratch<const SIZE: usize> {
+    vertices: [u32; SIZE],
+    keys: [u32; SIZE],
+    mirror: [u32; SIZE],
 }
 
-// Writes the polygon of that one corner of every box into the part of answer that the first `from` numbers leave free.
-fn append_corner(
-    boxes: Boxes,
-    corner: Corner,
-    from: usize,
-    answer: &mut [i32],
-    vertices: &mut [u32],
-    keys: &mut [u32],
-    mirror: &mut [u32],
-) -> usize
-    requires answer_room { from + length boxes.numbers.now / 4 * 2 ≤ length answer.old }
-    requires boxes_in_bounds { length boxes.numbers.now / 4 ≤ length vertices.old }
-    requires scratch_for { ScratchFor (length boxes.numbers.now / 4) keys.old mirror.old }
-    ensures { PolygonWritten
-        (corners_of corner (boxes_of boxes.entry.numbers.now)) from answer.old result answer.new }
-{
-    write_corner(boxes, corner, &mut answer[from..], vertices, keys, mirror)
-}
+impl<const SIZE: usize> Scratch<SIZE> {
+    // Writes the polygon of that one corner of every box over the front of answer.
+    #[tactic(auto, using(corners::proofs::Places::corners_length))]
+    fn write_corner(&mut self, boxes: Boxes, corner: Corner, answer: &mut [i32]) -> usize
+        requires size { length boxes.numbers.now / 4 ≤ SIZE }
+        requires answer_room { length boxes.numbers.now / 4 * 2 ≤ length answer.old }
+        ensures { PolygonWritten
+            (corners_of corner (boxes_of boxes.entry.numbers.now)) 0 answer.old result answer.new }
+    {
+        let count = outlines::corner_outline(
+            boxes,
+            corner,
+            &mut self.vertices,
+            &mut self.keys,
+            &mut self.mirror,
+        );
+        listings::write_vertices(&self.vertices[..count], answer);
+        count
+    }
 
-// Writes the polygons of two corners of every box, one behind the other, likewise.
-fn append_two_corners(
-    boxes: Boxes,
-    first: Corner,
-    second: Corner,
-    from: usize,
-    answer: &mut [i32],
-    vertices: &mut [u32],
-    keys: &mut [u32],
-    mirror: &mut [u32],
-) -> TwoCounts
-    requires answer_room { from + length boxes.numbers.now / 4 * 4 ≤ length answer.old }
-    requires boxes_in_bounds { length boxes.numbers.now / 4 ≤ length vertices.old }
-    requires scratch_for { ScratchFor (length boxes.numbers.now / 4) keys.old mirror.old }
-    ensures { TwoWritten
-        (corners_of first (boxes_of boxes.entry.numbers.now)) (corners_of second (boxes_of boxes.entry.numbers.now))
-        from answer.old result answer.new }
-{
-    let one = append_corner(boxes, first, from, answer, vertices, keys, mirror);
-    let next = from + one * 2;
-    let other = append_corner(boxes, second, next, answer, vertices, keys, mirror);
-    TwoCounts {
-        first: one,
-        second: other,
+    // Writes the polygon of that one corner of every box into the part of answer that the first `from` numbers leave
+    // free.
+    fn append_corner(
+        &mut self,
+        boxes: Boxes,
+        corner: Corner,
+        from: usize,
+        answer: &mut [i32],
+    ) -> usize
+        requires size { length boxes.numbers.now / 4 ≤ SIZE }
+        requires answer_room { from + length boxes.numbers.now / 4 * 2 ≤ length answer.old }
+        ensures { PolygonWritten
+            (corners_of corner (boxes_of boxes.entry.numbers.now)) from answer.old result answer.new }
+    {
+        self.write_corner(boxes, corner, &mut answer[from..])
+    }
+
+    // Writes the polygons of two corners of every box, one behind the other, likewise.
+    #[tactic(auto, using(corners::proofs::Places::corners_length))]
+    fn append_two_corners(
+        &mut self,
+        boxes: Boxes,
+        first: Corner,
+        second: Corner,
+        from: usize,
+        answer: &mut [i32],
+    ) -> TwoCounts
+        requires size { length boxes.numbers.now / 4 ≤ SIZE }
+        requires answer_room { from + length boxes.numbers.now / 4 * 4 ≤ length answer.old }
+        ensures { TwoWritten
+            (corners_of first (boxes_of boxes.entry.numbers.now)) (corners_of second (boxes_of boxes.entry.numbers.now))
+            from answer.old result answer.new }
+    {
+        let one = self.append_corner(boxes, first, from, answer);
+        let next = from + one * 2;
+        let other = self.append_corner(boxes, second, next, answer);
+        TwoCounts {
+            first: one,
+            second: other,
+        }
     }
 }
 
-// Writes the corner polygons one behind another over the front of answer, in lent scratch. What the scratch holds is
-// lost.
-fn write_corners_in(
-    boxes: Boxes,
-    answer: &mut [i32],
-    vertices: &mut [u32],
-    keys: &mut [u32],
-    mirror: &mut [u32],
-) -> VertexCounts
+// Writes the corner polygons one behind another over the front of answer, in scratch of that size.
+#[tactic(auto, using(corners::proofs::Places::corners_length))]
+fn write_corners_sized<const SIZE: usize>(boxes: Boxes, answer: &mut [i32]) -> VertexCounts
+    requires size { (length boxes.numbers.now / 4 ≤ SIZE) × (SIZE < 2 ^ 32) }
     requires answer_room { needed boxes.numbers.now ≤ length answer.old }
-    requires boxes_in_bounds { length boxes.numbers.now / 4 ≤ length vertices.old }
-    requires scratch_for { ScratchFor (length boxes.numbers.now / 4) keys.old mirror.old }
     ensures { CornersWritten (boxes_of boxes.entry.numbers.now) answer.old result answer.new }
 {
-    let south = append_two_corners(
-        boxes,
-        Corner::SouthWest,
-        Corner::SouthEast,
-        0,
-        answer,
-        vertices,
-        keys,
-        mirror,
-    );
+    let mut scratch = Scratch::<SIZE> {
+        vertices: [0; SIZE],
+        keys: [0; SIZE],
+        mirror: [0; SIZE],
+    };
+    let south = scratch.append_two_corners(boxes, Corner::SouthWest, Corner::SouthEast, 0, answer);
     let next = (south.first + south.second) * 2;
-    let north = append_two_corners(
+    let north = scratch.append_two_corners(
         boxes,
         Corner::NorthEast,
         Corner::NorthWest,
         next,
         answer,
-        vertices,
-        keys,
-        mirror,
     );
     VertexCounts {
         southwest: south.first,
@@ -199,19 +197,10 @@ pub fn write_corners(boxes: Boxes, answer: &mut [i32]) -> VertexCounts
 {
     let count = boxes.len();
     if count <= FEW_BOXES {
-        let mut vertices = [0u32; FEW_BOXES];
-        let mut keys = [0u32; FEW_BOXES];
-        let mut mirror = [0u32; FEW_BOXES];
-        return write_corners_in(boxes, answer, &mut vertices, &mut keys, &mut mirror);
+        return write_corners_sized::<FEW_BOXES>(boxes, answer);
     }
     if count <= SOME_BOXES {
-        let mut vertices = [0u32; SOME_BOXES];
-        let mut keys = [0u32; SOME_BOXES];
-        let mut mirror = [0u32; SOME_BOXES];
-        return write_corners_in(boxes, answer, &mut vertices, &mut keys, &mut mirror);
+        return write_corners_sized::<SOME_BOXES>(boxes, answer);
     }
-    let mut vertices = [0u32; MOST_BOXES];
-    let mut keys = [0u32; MOST_BOXES];
-    let mut mirror = [0u32; MOST_BOXES];
-    write_corners_in(boxes, answer, &mut vertices, &mut keys, &mut mirror)
+    write_corners_sized::<MOST_BOXES>(boxes, answer)
 }
