@@ -138,15 +138,9 @@ fn append_outline(
     corner_outline(boxes, corner, &mut vertices[from..], keys, mirror)
 }
 
-// How many vertices each of two polygons has.
-#[derive(Clone, Copy)]
-pub struct TwoCounts {
-    pub first: usize,
-    pub second: usize,
-}
-
 // The corner polygons of two corners of every box, one behind the other, in the part of vertices that the first `from`
 // leave free.
+#[tactic(auto, using(corners::proofs::Places::corners_length))]
 fn append_two_outlines(
     boxes: Boxes,
     first: Corner,
@@ -155,20 +149,17 @@ fn append_two_outlines(
     vertices: &mut [u32],
     keys: &mut [u32],
     mirror: &mut [u32],
-) -> TwoCounts
+) -> (usize, usize)
     requires room { from + 2 * (length boxes.numbers.now / 4) ≤ length vertices.old }
     requires scratch_for { ScratchFor (length boxes.numbers.now / 4) keys.old mirror.old }
     ensures { TwoBehind
         (corners_of first (boxes_of boxes.entry.numbers.now)) (corners_of second (boxes_of boxes.entry.numbers.now))
-        from vertices.old result.first result.second vertices.new }
+        from vertices.old result.0 result.1 vertices.new }
 {
     let one = append_outline(boxes, first, from, vertices, keys, mirror);
     let next = from + one;
     let other = append_outline(boxes, second, next, vertices, keys, mirror);
-    TwoCounts {
-        first: one,
-        second: other,
-    }
+    (one, other)
 }
 
 // The outer polygon: by quarters, but for one box, whose corners have room where the quarters' keys may have none.
@@ -198,7 +189,7 @@ pub fn round_outlines(
     ensures { RoundPolygons (boxes_of boxes.entry.numbers.now) vertices.new result }
 {
     let outer = first_outline(boxes, vertices, keys, mirror);
-    let south = append_two_outlines(
+    let (southwest, southeast) = append_two_outlines(
         boxes,
         Corner::SouthWest,
         Corner::SouthEast,
@@ -207,8 +198,8 @@ pub fn round_outlines(
         keys,
         mirror,
     );
-    let next = outer + south.first + south.second;
-    let north = append_two_outlines(
+    let next = outer + southwest + southeast;
+    let (northeast, northwest) = append_two_outlines(
         boxes,
         Corner::NorthEast,
         Corner::NorthWest,
@@ -219,9 +210,9 @@ pub fn round_outlines(
     );
     RoundCounts {
         outer,
-        southwest: south.first,
-        southeast: south.second,
-        northeast: north.first,
-        northwest: north.second,
+        southwest,
+        southeast,
+        northeast,
+        northwest,
     }
 }

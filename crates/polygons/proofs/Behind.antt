@@ -55,7 +55,7 @@ more_vertices vs ws d xs ys k j e h p q =
 
 -- a polygon behind another
 pub two_written : (qs rs : List Point) (d xs ys : List ℤ) (k n m : ℕ) → k + n * 2 ≤ length d
-    → PolygonWritten qs k d n xs → PolygonWritten rs (k + n * 2) xs m ys → TwoWritten qs rs k d (record { first = n; second = m }) ys
+    → PolygonWritten qs k d n xs → PolygonWritten rs (k + n * 2) xs m ys → TwoWritten qs rs k d n m ys
 two_written qs rs d xs ys k n m h v w =
     record {
       vs = v.vertices;
@@ -67,8 +67,8 @@ two_written qs rs d xs ys k n m h v w =
 
 -- two behind two
 pub corners_written : (bs : List Box) (d xs ys : List ℤ) (n₁ n₂ n₃ n₄ : ℕ) → (n₁ + n₂) * 2 ≤ length d
-    → TwoWritten (corners_of SouthWest bs) (corners_of SouthEast bs) 0 d (record { first = n₁; second = n₂ }) xs
-    → TwoWritten (corners_of NorthEast bs) (corners_of NorthWest bs) ((n₁ + n₂) * 2) xs (record { first = n₃; second = n₄ }) ys
+    → TwoWritten (corners_of SouthWest bs) (corners_of SouthEast bs) 0 d n₁ n₂ xs
+    → TwoWritten (corners_of NorthEast bs) (corners_of NorthWest bs) ((n₁ + n₂) * 2) xs n₃ n₄ ys
     → CornersWritten bs d (record { southwest = n₁; southeast = n₂; northeast = n₃; northwest = n₄ }) ys
 corners_written bs d xs ys n₁ n₂ n₃ n₄ h s n =
     record {

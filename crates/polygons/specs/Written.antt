@@ -5,7 +5,6 @@ use Rattle.plane.specs.Polygons.{Polygon}
 use Rattle.rounds.specs.Boxes.{corners_of}
 use Rattle.rounds.specs.declared.Box.{Box}
 use Rattle.rounds.specs.declared.Corner.TheVariants.{SouthWest, SouthEast, NorthEast, NorthWest}
-use Rattle.outlines.specs.declared.TwoCounts.{TwoCounts}
 use Rattle.listings.specs.Listings.{flat, over_front}
 use Rattle.polygons.specs.declared.VertexCounts.{VertexCounts}
 
@@ -22,11 +21,11 @@ pub record PolygonWritten (qs : List Point) (from : ℕ) (before : List ℤ) (co
   pub buffer : after ≡ take from before ++ over_front (flat vertices) (drop from before)
 
 -- likewise the polygon of the points qs, and behind it that of the points rs
-pub record TwoWritten (qs rs : List Point) (from : ℕ) (before : List ℤ) (counts : TwoCounts) (after : List ℤ) : Type 0 where
+pub record TwoWritten (qs rs : List Point) (from : ℕ) (before : List ℤ) (first_count second_count : ℕ) (after : List ℤ) : Type 0 where
   pub vs : List Point
   pub ws : List Point
-  pub first : PolygonCounted qs vs counts.first
-  pub second : PolygonCounted rs ws counts.second
+  pub first : PolygonCounted qs vs first_count
+  pub second : PolygonCounted rs ws second_count
   pub buffer : after ≡ take from before ++ over_front (flat (vs ++ ws)) (drop from before)
 
 -- the corner polygons of the boxes are written over the front of a buffer, one behind another

@@ -9,7 +9,7 @@ ghost use Rattle.listings.specs.Listings.{needed};
 ghost use Rattle.polygons.specs.Written.{PolygonWritten, TwoWritten, CornersWritten};
 
 use boxes::Boxes;
-use outlines::{MOST_KEYS, TwoCounts};
+use outlines::MOST_KEYS;
 use rounds::{Corner, MOST_BOXES};
 
 // Scratch has one of three sizes, so that few boxes zero little of it: for these many boxes, for these, and for the
@@ -144,20 +144,17 @@ impl<const SIZE: usize> Scratch<SIZE> {
         second: Corner,
         from: usize,
         answer: &mut [i32],
-    ) -> TwoCounts
+    ) -> (usize, usize)
         requires size { length boxes.numbers.now / 4 ≤ SIZE }
         requires answer_room { from + length boxes.numbers.now / 4 * 4 ≤ length answer.old }
         ensures { TwoWritten
             (corners_of first (boxes_of boxes.entry.numbers.now)) (corners_of second (boxes_of boxes.entry.numbers.now))
-            from answer.old result answer.new }
+            from answer.old result.0 result.1 answer.new }
     {
         let one = self.append_corner(boxes, first, from, answer);
         let next = from + one * 2;
         let other = self.append_corner(boxes, second, next, answer);
-        TwoCounts {
-            first: one,
-            second: other,
-        }
+        (one, other)
     }
 }
 
@@ -173,9 +170,15 @@ fn write_corners_sized<const SIZE: usize>(boxes: Boxes, answer: &mut [i32]) -> V
         keys: [0; SIZE],
         mirror: [0; SIZE],
     };
-    let south = scratch.append_two_corners(boxes, Corner::SouthWest, Corner::SouthEast, 0, answer);
-    let next = (south.first + south.second) * 2;
-    let north = scratch.append_two_corners(
+    let (southwest, southeast) = scratch.append_two_corners(
+        boxes,
+        Corner::SouthWest,
+        Corner::SouthEast,
+        0,
+        answer,
+    );
+    let next = (southwest + southeast) * 2;
+    let (northeast, northwest) = scratch.append_two_corners(
         boxes,
         Corner::NorthEast,
         Corner::NorthWest,
@@ -183,10 +186,10 @@ fn write_corners_sized<const SIZE: usize>(boxes: Boxes, answer: &mut [i32]) -> V
         answer,
     );
     VertexCounts {
-        southwest: south.first,
-        southeast: south.second,
-        northeast: north.first,
-        northwest: north.second,
+        southwest,
+        southeast,
+        northeast,
+        northwest,
     }
 }
 
