@@ -63,40 +63,39 @@ fn reflect_keys(keys: &mut [u32])
     }
 }
 
-// The keys for the upper chain of all corners from the least, first, to the greatest, last, in order, at the front of
-// list: of the north-western and the north-eastern corners. What keys and scratch hold is lost.
+// The keys for the upper chain of all corners between their ends, in order, at the front of list: of the north-western
+// and the north-eastern corners. What keys and scratch hold is lost.
 pub fn upper_keys(
     boxes: Boxes,
-    first: u32,
-    last: u32,
+    ends: Ends,
     list: &mut [u32],
     keys: &mut [u32],
     scratch: &mut [u32],
 ) -> usize
-    requires point_ends { PointEnds (all_corners (boxes_of boxes.numbers.now)) first last }
+    requires point_ends { PointEnds (all_corners (boxes_of boxes.numbers.now)) ends.first ends.last }
     requires chain_room { ChainRoom (length boxes.numbers.now / 4) list.old keys.old scratch.old }
     ensures { ChainKeys (λ k. k) (all_corners (boxes_of boxes.entry.numbers.now)) (length boxes.entry.numbers.now / 4)
-        first last list.new result }
+        ends.first ends.last list.new result }
 {
     let n = boxes.len();
     let end = n + n;
     put_two_corners(boxes, Corner::NorthWest, Corner::NorthEast, keys);
-    quarters::upper_list(&keys[..end], n, first, last, list, scratch)
+    quarters::upper_list(&keys[..end], n, ends.first, ends.last, list, scratch)
 }
 
 // The same for the lower chain: the keys, reflected, of the south-eastern and the south-western corners.
+// One function for both chains would have to be told whether to reflect the keys, and so is no plainer.
 pub fn lower_keys(
     boxes: Boxes,
-    first: u32,
-    last: u32,
+    ends: Ends,
     list: &mut [u32],
     keys: &mut [u32],
     scratch: &mut [u32],
 ) -> usize
-    requires point_ends { PointEnds (all_corners (boxes_of boxes.numbers.now)) first last }
+    requires point_ends { PointEnds (all_corners (boxes_of boxes.numbers.now)) ends.first ends.last }
     requires chain_room { ChainRoom (length boxes.numbers.now / 4) list.old keys.old scratch.old }
     ensures { ChainKeys reflected (all_corners (boxes_of boxes.entry.numbers.now)) (length boxes.entry.numbers.now / 4)
-        (reflected last) (reflected first) list.new result }
+        (reflected ends.last) (reflected ends.first) list.new result }
 {
     let n = boxes.len();
     let end = n + n;
@@ -105,8 +104,8 @@ pub fn lower_keys(
     quarters::upper_list(
         &keys[..end],
         n,
-        turns::reflected(last),
-        turns::reflected(first),
+        turns::reflected(ends.last),
+        turns::reflected(ends.first),
         list,
         scratch,
     )

@@ -9,10 +9,11 @@ ghost use Rattle.outlines.specs.Outlines.{ScratchFor, OuterRoom, PolygonKeys, Po
 ghost use Rattle.outlines.specs.RoundPolygons.{RoundPolygons};
 
 use boxes::Boxes;
+use extremes::Ends;
 use rounds::Corner;
 
 // Scratch for the keys of two corners of each of the most boxes that a round has, and a little more, so that each chain
-// ends in it.
+// ends in it. It is lent as two slices: a struct of them would have to promise at each call that it keeps their lengths.
 pub const MOST_KEYS: usize = 2052;
 
 // How many vertices each of the five polygons of a round has. Their keys stand one behind another, in this order.
@@ -74,27 +75,26 @@ pub fn outer_outline(
     hulls::hull(&mut keys[..n], vertices, mirror)
 }
 
-// The outer polygon from the least key of all corners, first, to the greatest, last: the upper chain without its last
+// The outer polygon from the least key of all corners to the greatest, its ends: the upper chain without its last
 // vertex, and then the lower one without its last, which is made, reflected, in keys.
 fn outer_chains(
     boxes: Boxes,
-    first: u32,
-    last: u32,
+    ends: Ends,
     vertices: &mut [u32],
     keys: &mut [u32],
     list: &mut [u32],
 ) -> usize
-    requires point_ends { PointEnds (all_corners (boxes_of boxes.numbers.now)) first last × (first < last) }
+    requires point_ends { PointEnds (all_corners (boxes_of boxes.numbers.now)) ends.first ends.last × (ends.first < ends.last) }
     requires outer_room { OuterRoom (length boxes.numbers.now / 4) vertices.old keys.old list.old }
     ensures { PolygonKeys (all_corners (boxes_of boxes.entry.numbers.now)) vertices.new result }
 {
-    let u = corner_lists::upper_keys(boxes, first, last, list, keys, vertices);
-    let ku = chains::upper_chain(first, &list[..u], last, vertices);
-    let v = corner_lists::lower_keys(boxes, first, last, list, keys, &mut vertices[ku..]);
+    let u = corner_lists::upper_keys(boxes, ends, list, keys, vertices);
+    let ku = chains::upper_chain(ends.first, &list[..u], ends.last, vertices);
+    let v = corner_lists::lower_keys(boxes, ends, list, keys, &mut vertices[ku..]);
     let kl = chains::upper_chain(
-        turns::reflected(last),
+        turns::reflected(ends.last),
         &list[..v],
-        turns::reflected(first),
+        turns::reflected(ends.first),
         keys,
     );
     hulls::append_reflected(keys, kl - 1, vertices, ku - 1);
@@ -112,13 +112,11 @@ pub fn quartered_outline(
     ensures { PolygonKeys (all_corners (boxes_of boxes.entry.numbers.now)) vertices.new result }
 {
     let ends = corner_lists::find_corner_ends(boxes, keys);
-    let first = ends.first;
-    let last = ends.last;
-    if last <= first {
-        vertices[0] = first;
+    if ends.last <= ends.first {
+        vertices[0] = ends.first;
         return 1;
     }
-    outer_chains(boxes, first, last, vertices, keys, list)
+    outer_chains(boxes, ends, vertices, keys, list)
 }
 
 // The corner polygon of that one corner of every box, in the part of vertices that the first `from` leave free.
@@ -166,7 +164,8 @@ fn append_two_outlines(
 fn first_outline(boxes: Boxes, vertices: &mut [u32], keys: &mut [u32], mirror: &mut [u32]) -> usize
     requires room { 8 * (length boxes.numbers.now / 4) ≤ length vertices.old }
     requires scratch_for { ScratchFor
-        (min (length boxes.numbers.now) (length boxes.numbers.now / 4 + length boxes.numbers.now / 4 + 3)) keys.old mirror.old }
+        (min (length boxes.numbers.now) (length boxes.numbers.now / 4 + length boxes.numbers.now / 4 + 3))
+        keys.old mirror.old }
     ensures { PolygonKeys (all_corners (boxes_of boxes.entry.numbers.now)) vertices.new result }
 {
     if boxes.len() <= 1 {
@@ -185,7 +184,8 @@ pub fn round_outlines(
 ) -> RoundCounts
     requires room { 8 * (length boxes.numbers.now / 4) ≤ length vertices.old }
     requires scratch_for { ScratchFor
-        (min (length boxes.numbers.now) (length boxes.numbers.now / 4 + length boxes.numbers.now / 4 + 3)) keys.old mirror.old }
+        (min (length boxes.numbers.now) (length boxes.numbers.now / 4 + length boxes.numbers.now / 4 + 3))
+        keys.old mirror.old }
     ensures { RoundPolygons (boxes_of boxes.entry.numbers.now) vertices.new result }
 {
     let outer = first_outline(boxes, vertices, keys, mirror);

@@ -41,4 +41,4 @@ upper_list-requires-clause-upper_input c =
 pub returns : goal.returns
 returns c =
     chain c.args.boxes.numbers.now c.args.boxes.accepted c.len-n.result c.len-n.ensures c.put_two_corners.new.keys (omega (arith, c.requires.chain_room.in_keys)) c.put_two_corners.ensures
-    c.args.first c.args.last c.upper_list.new.out c.upper_list.result c.upper_list.ensures
+    c.args.ends.first c.args.ends.last c.upper_list.new.out c.upper_list.result c.upper_list.ensures
