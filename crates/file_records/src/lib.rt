@@ -16,19 +16,19 @@ use plane::Point;
 use rounds::{Box, Cause, Refusal};
 
 // A box's mark.
-const BOX_MARK: u32 = 0x5B01;
+const BOX_MARK: u16 = 0x5B01;
 
 // A plug's mark.
-const PLUG_MARK: u32 = 0x5B02;
+const PLUG_MARK: u16 = 0x5B02;
 
 // The end's mark.
-pub const END_MARK: u32 = 0x5B00;
+pub const END_MARK: u16 = 0x5B00;
 
 // The first mark of notes.
-const FIRST_NOTE_MARK: u32 = 0x5C00;
+const FIRST_NOTE_MARK: u16 = 0x5C00;
 
 // The last mark of notes.
-const LAST_NOTE_MARK: u32 = 0x5CFF;
+const LAST_NOTE_MARK: u16 = 0x5CFF;
 
 // The bytes of a mark, which are all that the end has.
 pub const MARK_LENGTH: usize = 2;
@@ -42,20 +42,8 @@ pub const PLUG_LENGTH: usize = 10;
 // The bytes of a note's mark and length byte, before those that it counts.
 const NOTE_HEAD_LENGTH: usize = 3;
 
-// How many values a byte has.
-const BYTE: u32 = 256;
-
-// How many values two bytes have.
-const TWO_BYTES: u32 = 65536;
-
-// How many values three bytes have.
-const THREE_BYTES: u32 = 16777216;
-
-// The least bits that are those of a number below 0 in two's complement.
-const SIGN_BIT: u32 = 2147483648;
-
-// The greatest bits, those of -1.
-const ALL_BITS: u32 = 4294967295;
+// The bytes of a number.
+const NUMBER_LENGTH: usize = 4;
 
 // A record at an offset of a file, with the offset after it.
 #[derive(Clone, Copy, Debug, PartialEq, Eq)]
@@ -67,11 +55,11 @@ pub enum Record {
 }
 
 // The mark at an offset.
-fn mark_at(file: &[u8], at: usize) -> u32
+fn mark_at(file: &[u8], at: usize) -> u16
     requires { at + 1 < length file.now }
     ensures { result ≡ mark_at file.now at }
 {
-    (file[at] as u32) * BYTE + (file[at + 1] as u32)
+    u16::from_be_bytes([file[at], file[at + 1]])
 }
 
 // A record that ends at `end`, where the file reaches so far.
@@ -99,7 +87,7 @@ fn note_at(file: &[u8], at: usize) -> Result<Record, Refusal>
             place: at,
         });
     }
-    let end = body + (file[at + MARK_LENGTH] as usize);
+    let end = body + usize::from(file[at + MARK_LENGTH]);
     whole(file, at, end, Record::Note(end))
 }
 
@@ -143,23 +131,12 @@ pub fn next_record(file: &[u8], at: usize, plugged: bool) -> Result<Record, Refu
     }
 }
 
-// The number whose two's complement is `bits`.
-fn signed(bits: u32) -> i32
-    ensures { result ≡ to_z w32 bits }
-{
-    if bits < SIGN_BIT {
-        return bits as i32;
-    }
-    -1 - ((ALL_BITS - bits) as i32)
-}
-
 // The number at an offset.
 fn number_at(file: &[u8], at: usize) -> i32
     requires { at + 3 < length file.now }
     ensures { result ≡ number_at file.now at }
 {
-    let high = (file[at] as u32) * THREE_BYTES + (file[at + 1] as u32) * TWO_BYTES;
-    signed(high + (file[at + 2] as u32) * BYTE + (file[at + 3] as u32))
+    i32::from_be_bytes([file[at], file[at + 1], file[at + 2], file[at + 3]])
 }
 
 // Puts the box whose numbers start at an offset of a file into a buffer, from `to` on.
@@ -183,23 +160,12 @@ pub fn put_plug(file: &[u8], from: usize, plugs: &mut [i32], to: usize)
     plugs[to + 1] = number_at(file, from + 4);
 }
 
-// The two's complement of a number.
-fn bits_of(number: i32) -> u32
-    ensures { result ≡ of_z w32 number }
-{
-    if 0 <= number {
-        return number as u32;
-    }
-    ALL_BITS - ((-1 - number) as u32)
-}
-
 // Writes a mark at an offset.
-pub fn write_mark(mark: u32, file: &mut [u8], at: usize)
-    requires { (mark < 65536) × (at + 1 < length file.old) }
+pub fn write_mark(mark: u16, file: &mut [u8], at: usize)
+    requires { at + 1 < length file.old }
     ensures { file.new ≡ over file.old at (mark_bytes mark) }
 {
-    file[at] = (mark / BYTE) as u8;
-    file[at + 1] = (mark % BYTE) as u8;
+    file[at..at + MARK_LENGTH].copy_from_slice(&mark.to_be_bytes());
 }
 
 // Writes a number at an offset.
@@ -207,11 +173,7 @@ fn write_number(number: i32, file: &mut [u8], at: usize)
     requires { at + 3 < length file.old }
     ensures { file.new ≡ over file.old at (number_bytes number) }
 {
-    let bits = bits_of(number);
-    file[at] = (bits / THREE_BYTES) as u8;
-    file[at + 1] = (bits / TWO_BYTES % BYTE) as u8;
-    file[at + 2] = (bits / BYTE % BYTE) as u8;
-    file[at + 3] = (bits % BYTE) as u8;
+    file[at..at + NUMBER_LENGTH].copy_from_slice(&number.to_be_bytes());
 }
 
 // Writes a box at an offset.

@@ -1,22 +1,8 @@
--- `file_records::mark_at` meets its contract. A byte is below 256. Assumes nothing.
-use mathlib.Core.Path.{refl}
-use Prim.Native.Nat.{◌+◌}
+-- `file_records::mark_at` meets its contract. Assumes nothing.
 use native.Mathlib.Omega.{arith}
 use Rattle.formats.specs.Format.{mark_at}
 use Rattle.file_records.proofs.mark_at.Goals as goal
 
-pub overflow_cast-result : goal.overflow_cast-result
-overflow_cast-result c = omega (arith, c.shared_slice_known-1.given c.args.at)
-
-pub overflow_mul-result : goal.overflow_mul-result
-overflow_mul-result c = omega (arith, c.shared_slice_known-1.given c.args.at)
-
-pub overflow_cast-result-2 : goal.overflow_cast-result-2
-overflow_cast-result-2 c = omega (arith, c.shared_slice_known-2-1.given (c.args.at + 1))
-
-pub overflow_add-result-2 : goal.overflow_add-result-2
-overflow_add-result-2 c = omega (arith, c.shared_slice_known-2-1.given c.args.at, c.shared_slice_known-2-1.given (c.args.at + 1))
-
 pub returns : goal.returns
 unfolding mark_at
-returns c = refl
+returns c = omega (arith, c.from_be_bytes.ensures)

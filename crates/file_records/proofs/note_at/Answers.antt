@@ -14,12 +14,6 @@ returns-then-file-body c =
     let h : length a.file.now < a.at + 3 + byte_at a.file.now (a.at + 2) = omega arith in
     simp (lt-ltb _ _ h)
 
-pub overflow_cast-end : goal.overflow_cast-end
-overflow_cast-end c = omega (arith, c.shared_slice_known-2-1.given (c.args.at + 2))
-
-pub overflow_add-end-2 : goal.overflow_add-end-2
-overflow_add-end-2 c = omega (arith, c.shared_slice_known-2-1.given (c.args.at + 2))
-
 pub returns : goal.returns
 unfolding kind_fault next_at
-returns c = c.whole.ensures
+returns c = rw c.from.ensures at c.whole.ensures
