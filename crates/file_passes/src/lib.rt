@@ -44,7 +44,7 @@ pub fn read_boxes(file: &[u8], boxes: &mut [i32]) -> usize
     loop {
         match file_records::next_record(file, at, false) {
             Ok(Record::Box(next)) => {
-                file_records::put_box(file, at + MARK_LENGTH, boxes, edge);
+                file_records::put_numbers(file, at + MARK_LENGTH, &mut boxes[edge..edge + 4]);
                 edge += 4;
                 at = next;
             }
@@ -67,7 +67,7 @@ pub fn read_plugs(file: &[u8], from: usize, count: usize, plugs: &mut [i32]) -> 
     while k < count {
         match file_records::next_record(file, at, true) {
             Ok(Record::Plug(next)) => {
-                file_records::put_plug(file, at + MARK_LENGTH, plugs, k * 2);
+                file_records::put_numbers(file, at + MARK_LENGTH, &mut plugs[k * 2..k * 2 + 2]);
                 k += 1;
                 at = next;
             }

@@ -1,5 +1,5 @@
 -- Marks and numbers as std's bytes, high byte first, and a part of a buffer that was written over. Assumes nothing.
-use mathlib.Core.Path.{◌≡◌, refl, ◌∙◌}
+use mathlib.Core.Path.{◌≡◌}
 use mathlib.Core.List.{List, ◌++◌}
 use Prim.Native.Nat.{ℕ, ◌+◌, ◌-◌, ◌/◌, ◌%◌, ◌^◌, ◌<◌}
 use native.Mathlib.Omega.{arith}
@@ -8,7 +8,7 @@ use lib.ListN.{length, take, drop}
 use lib.Seq.{drop-drop}
 use mir.Val.{SFits, to_z, of_z}
 use mir.ValLaws.{to_z-of_z, of_z_fits}
-use Rattle.std.specs.Int.{w16, w32, from_be_bytes, to_be_bytes}
+use Rattle.std.specs.Int.{w16, w32, to_be_bytes}
 use Rattle.formats.specs.Format.{mark_bytes, four_bytes, number_bytes}
 use Rattle.file_records.specs.Records.{over}
 

@@ -68,20 +68,10 @@ module _ {A : Type 0} where
           fits = rw (length-append new more) (omega arith);
         }
 
-    then_set : (i : ℕ) (a : A) → i ≡ at + length new → i < length xs → WroteAt xs at (new ++ (a ∷ [])) (set out i a)
+    pub then_set : (i : ℕ) (a : A) → i ≡ at + length new → i < length xs → WroteAt xs at (new ++ (a ∷ [])) (set out i a)
     then_set i a e h =
         let l : i < length out = omega (arith, wrote_length w) in
         then_over i (a ∷ []) e (omega arith) (set_over out i a l)
-
-  -- two stores and four, one after another; the values may be given by equal ones
-  pub two_sets : (xs : List A) (at : ℕ) {a b a' b' : A} → at + 1 < length xs → a ≡ a' → b ≡ b' → WroteAt xs at (a' ∷ b' ∷ []) (set (set xs at a) (at + 1) b)
-  two_sets xs at {a} {b} h p q =
-      rw (p, q) (then_set (then_set (wrote_none xs at (omega arith)) at _ (omega arith) (omega arith)) (at + 1) _ (omega arith) h)
-
-  pub four_sets : (xs : List A) (at : ℕ) {a b c d a' b' c' d' : A} → at + 3 < length xs → a ≡ a' → b ≡ b' → c ≡ c' → d ≡ d'
-      → WroteAt xs at (a' ∷ b' ∷ c' ∷ d' ∷ []) (set (set (set (set xs at a) (at + 1) b) (at + 2) c) (at + 3) d)
-  four_sets xs at h p q r s =
-      rw (r, s) (then_set (then_set (two_sets xs at (omega arith) p q) (at + 2) _ (omega arith) (omega arith)) (at + 3) _ (omega arith) h)
 
   -- ---- a loop that writes a whole
 

@@ -1,31 +1,108 @@
--- A record number by number, and the writer's loops, box by box and plug by plug over flat lists. Assumes nothing.
-use mathlib.Core.Path.{◌≡◌, refl, ◌∙◌, ap, subst}
-use mathlib.Core.List.{List, [], ◌∷◌, ◌++◌, flat_map}
-use Prim.Native.Nat.{ℕ, ◌+◌, ◌*◌, ◌≤◌, ◌<◌}
+-- The numbers of a record, and the writer's loops, box by box and plug by plug over flat lists. Assumes nothing.
+use mathlib.Core.Path.{◌≡◌, refl, sym, ◌∙◌, ap, subst}
+use mathlib.Core.List.{List, [], ◌∷◌, ◌++◌, flat_map, append-nil}
+use Prim.Native.Nat.{ℕ, zero, suc, ◌+◌, ◌-◌, ◌*◌, ◌≤◌, ◌<◌}
+use native.Mathlib.Numerals.{add-one}
 use native.Mathlib.Omega.{arith}
 use lib.IntN.{ℤ, pos}
-use lib.ListN.{length, drop, length-drop}
+use lib.ListN.{length, get_or, take, drop, set, length-take, length-drop, drop_of_length-le}
+use lib.Seq.{drop-cons}
 use mir.Syntax.{w32}
 use mir.Val.{SFits, to_z, of_z}
 use mir.ValLaws.{to_z-of_z}
-use Rattle.plane.specs.Points.{point}
 use Rattle.plane.specs.declared.Point.{Point}
 use Rattle.rounds.specs.Boxes.{boxes_of, box_at, plugs_of}
 use Rattle.rounds.specs.declared.Box.{Box}
 use Rattle.rounds.specs.Boxes.{plug_at}
 use Rattle.integers.proofs.Parts.{drop_two, drop_four}
-use Rattle.formats.specs.Format.{box_length, plug_length, four_bytes, number_bytes, box_record, plug_record}
-use Rattle.file_records.specs.Records.{over}
-use Rattle.file_records.proofs.Over.{WroteAt, then_over, Sofar, sofar_more}
+use Rattle.formats.specs.Format.{mark_length, box_length, plug_length, mark_bytes, four_bytes, number_bytes, number_at, file_box_at, file_plug_at, box_record, plug_record}
+use Rattle.file_records.specs.Records.{numbers_at, over}
+use Rattle.file_records.proofs.Over.{over_front_lem, WroteAt, then_set, Sofar, sofar_none, sofar_more}
+use Rattle.formats.specs.Promises.{edges, coordinates}
+use Rattle.file_records.proofs.Numbers.{part_over}
 use Rattle.formats.proofs.Bytes.{length_box, length_plug}
 
--- ---- a number of a record
+-- ---- the numbers of a record
 
--- a number after what was written; the callee is passed what is read back from the number's bits
-pub number_then : {xs : List ℕ} {at : ℕ} {new out out' : List ℕ} → WroteAt xs at new out → (i : ℕ) {z : ℤ} → SFits w32 z → i ≡ at + length new → i + 4 ≤ length xs
-    → out' ≡ over out i (number_bytes (to_z w32 (of_z w32 z))) → WroteAt xs at (new ++ number_bytes z) out'
-unfolding number_bytes four_bytes
-number_then {out = out} w i {z} f e h o = then_over w i (number_bytes z) e h (o ∙ ap (λ x. over out i (number_bytes x)) (to_z-of_z w32 z f))
+numbers_length : (file : List ℕ) (from n : ℕ) → length (numbers_at file from n) ≡ n
+numbers_length file from zero = refl
+numbers_length file from (suc n) = ap suc (numbers_length file (from + 4) n)
+
+-- the last of them
+numbers_last : (file : List ℕ) (from n : ℕ) → numbers_at file from (suc n) ≡ numbers_at file from n ++ (number_at file (from + 4 * n) ∷ [])
+numbers_last file from zero = let e : from ≡ from + 4 * 0 = omega arith in ap (λ i. number_at file i ∷ []) e
+numbers_last file from (suc n) =
+    let e : from + 4 + 4 * n ≡ from + 4 * suc n = omega arith in
+    ap (λ l. number_at file from ∷ l) (numbers_last file (from + 4) n ∙ ap (λ i. numbers_at file (from + 4) n ++ (number_at file i ∷ [])) e)
+
+module _ (file : List ℕ) (from n : ℕ) {xs out : List ℤ} (w : WroteAt xs 0 (numbers_at file from n) out) where
+  -- one more in a buffer
+  pub number_put : {z : ℤ} → z ≡ number_at file (from + 4 * n) → n < length xs → WroteAt xs 0 (numbers_at file from (n + 1)) (set out n z)
+  number_put e h =
+      let m : numbers_at file from (n + 1) ≡ numbers_at file from n ++ (number_at file (from + 4 * n) ∷ []) = ap (numbers_at file from) (add-one n) ∙ numbers_last file from n in
+      rw (m, ← e) (then_set w n _ (omega (arith, numbers_length file from n)) h)
+
+  -- the buffer is full
+  pub numbers_put : n ≡ length xs → out ≡ numbers_at file from (length xs)
+  numbers_put e =
+      let l = numbers_length file from n in
+      w.is
+      ∙ over_front_lem xs (numbers_at file from n)
+      ∙ ap (λ ys. numbers_at file from n ++ ys) (drop_of_length-le xs (omega (arith, l, e)))
+      ∙ append-nil (numbers_at file from n)
+      ∙ ap (numbers_at file from) e
+
+-- the numbers of a box and of a plug
+pub edges_are : (file : List ℕ) (from : ℕ) → numbers_at file from 4 ≡ edges (file_box_at file from)
+unfolding file_box_at
+edges_are file from =
+    let e : from + 4 + 4 ≡ from + 8 = omega arith in
+    let f : from + 4 + 4 + 4 ≡ from + 12 = omega arith in
+    λ i. number_at file from ∷ number_at file (from + 4) ∷ number_at file (e i) ∷ number_at file (f i) ∷ []
+
+pub coordinates_are : (file : List ℕ) (from : ℕ) → numbers_at file from 2 ≡ coordinates (file_plug_at file from)
+unfolding file_plug_at
+coordinates_are file from = refl
+
+-- they were put into a part of a buffer, `xs[to..to + n]`
+pub part_put : (file : List ℕ) (from : ℕ) (xs : List ℤ) (to n : ℕ) {part new : List ℤ} → to + n ≤ length xs → numbers_at file from n ≡ new
+    → part ≡ numbers_at file from (length (take (to + n - to) (drop to xs))) → take to xs ++ (part ++ drop (to + n - to) (drop to xs)) ≡ over xs to new
+part_put file from xs to n h e p =
+    let l : length (take (to + n - to) (drop to xs)) ≡ n = omega (arith, length-take (to + n - to) (drop to xs), length-drop to xs) in
+    part_over xs to n (p ∙ ap (numbers_at file from) l ∙ e) (sym (ap length e) ∙ numbers_length file from n)
+
+-- a mark is written, and the numbers are to come
+pub mark_written : (file : List ℕ) (at mark : ℕ) (numbers : List ℤ) {out : List ℕ} → at + mark_length ≤ length file → out ≡ over file at (mark_bytes mark)
+    → Sofar file at (mark_bytes mark ++ flat_map number_bytes numbers) (flat_map number_bytes (drop 0 numbers)) (at + mark_length + 4 * 0) out
+unfolding mark_bytes
+mark_written file at mark numbers {out} h e =
+    let whole = mark_bytes mark ++ flat_map number_bytes numbers in
+    let to : at + mark_length + 4 * 0 ≡ at + mark_length = omega arith in
+    rw to (sofar_more (sofar_none file at whole (omega arith)) (mark_bytes mark) (flat_map number_bytes numbers) refl (omega arith) e)
+
+-- one more number is written; the callee is passed what is read back from its bits
+pub number_written : {file : List ℕ} {at : ℕ} (from n : ℕ) {whole out out' : List ℕ} (numbers : List ℤ) → Sofar file at whole (flat_map number_bytes (drop n numbers)) (from + 4 * n) out
+    → n < length numbers → from + 4 * length numbers ≤ length file → SFits w32 (get_or numbers n (pos 0))
+    → out' ≡ over out (from + 4 * n) (number_bytes (to_z w32 (of_z w32 (get_or numbers n (pos 0)))))
+    → Sofar file at whole (flat_map number_bytes (drop (n + 1) numbers)) (from + 4 * (n + 1)) out'
+unfolding flat_map number_bytes four_bytes
+number_written {file} {at} from n {whole} {out} {out'} numbers s h l f e =
+    let z = get_or numbers n (pos 0) in
+    let next = flat_map number_bytes (drop (n + 1) numbers) in
+    let split : flat_map number_bytes (drop n numbers) ≡ number_bytes z ++ next = ap (flat_map number_bytes) (drop-cons numbers n (pos 0) h ∙ ap (λ i. z ∷ drop i numbers) (sym (add-one n))) in
+    let to : from + 4 * n + 4 ≡ from + 4 * (n + 1) = omega arith in
+    subst (λ i. Sofar file at whole next i out') to
+    (sofar_more s (number_bytes z) next split (omega arith) (e ∙ ap (λ x. over out (from + 4 * n) (number_bytes x)) (to_z-of_z w32 z f)))
+
+-- numbers that are passed on in an array are read back from their bits
+abbrev pub passed : ℤ → ℤ
+passed z = to_z w32 (of_z w32 z)
+
+pub two_passed : {a b : ℤ} → SFits w32 a → SFits w32 b → passed a ∷ passed b ∷ [] ≡ a ∷ b ∷ []
+two_passed fa fb = rw (to_z-of_z w32 _ fa, to_z-of_z w32 _ fb)
+
+pub four_passed : {a b c d : ℤ} → SFits w32 a → SFits w32 b → SFits w32 c → SFits w32 d → passed a ∷ passed b ∷ passed c ∷ passed d ∷ [] ≡ a ∷ b ∷ c ∷ d ∷ []
+four_passed fa fb fc fd = rw (to_z-of_z w32 _ fa, to_z-of_z w32 _ fb, to_z-of_z w32 _ fc, to_z-of_z w32 _ fd)
 
 -- ---- a turn of a loop
 
@@ -107,9 +184,3 @@ module _ (xs : List ℤ) where
       go [] k = refl
       go (e ∷ []) k = refl
       go (e ∷ n ∷ l) k = absurd (omega arith)
-
--- ---- what a callee is passed
-
--- a plug that is passed on is read back from its coordinates' bits
-pub plug_plain : {e n : ℤ} → SFits w32 e → SFits w32 n → point (to_z w32 (of_z w32 e)) (to_z w32 (of_z w32 n)) ≡ point e n
-plug_plain {e} {n} fe fn = rw (to_z-of_z w32 e fe, to_z-of_z w32 n fn)

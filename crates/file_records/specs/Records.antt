@@ -1,8 +1,8 @@
 -- What stands at an offset of a file, and what a write leaves. Definitions only.
-use Rattle.std.specs.Prelude.{Result, Ok, Err, ℕ, ◌+◌, Bool, List, ◌++◌, length, take, drop}
+use Rattle.std.specs.Prelude.{Result, Ok, Err, ℕ, zero, suc, ◌+◌, Bool, List, [], ◌∷◌, ◌++◌, ℤ, length, take, drop}
 use Rattle.rounds.specs.Refusals.{Fault, none, fault}
 use Rattle.rounds.specs.declared.Refusal.{Refusal}
-use Rattle.formats.specs.Format.{Kind, box_kind, plug_kind, note_kind, end_kind, unknown_kind, kind_at, next_at}
+use Rattle.formats.specs.Format.{Kind, box_kind, plug_kind, note_kind, end_kind, unknown_kind, kind_at, next_at, number_at}
 use Rattle.formats.specs.Content.{kind_fault, form_fault}
 use Rattle.file_records.specs.declared.Record.{Record}
 use Rattle.file_records.specs.declared.Record.TheVariants.{Box, Plug, Note, End}
@@ -27,6 +27,11 @@ record_of kind file at plugged = refused_or (kind_fault kind file at plugged) (k
 -- what stands at an offset
 unfoldable pub record_at : List ℕ → ℕ → Bool → Result Record Refusal
 record_at file at plugged = refused_or (form_fault file at plugged) (kind_record (kind_at file at) (next_at (kind_at file at) file at))
+
+-- so many numbers from an offset on
+abbrev pub numbers_at : List ℕ → ℕ → ℕ → List ℤ
+numbers_at file from zero = []
+numbers_at file from (suc more) = number_at file from ∷ numbers_at file (from + 4) more
 
 -- a list with new elements over those from an offset on
 abbrev pub over : {A : Type 0} → List A → ℕ → List A → List A

@@ -2,15 +2,13 @@
 // a plug and a mark written at an offset. Crate `formats` says what a record is.
 #![tactic(auto)]
 
-ghost use Rattle.std.specs.Prelude.{◌+◌, ◌≤◌, ◌<◌, false, ◌≡◌, length};
-ghost use Rattle.std.specs.Int.{w32};
-ghost use Rattle.std.proofs.Common.{of_z, to_z};
+ghost use Rattle.std.specs.Prelude.{◌+◌, ◌*◌, ◌≤◌, ◌<◌, false, ◌≡◌, ◌++◌, length};
+ghost use mathlib.Core.List.{flat_map};
 ghost use Rattle.formats.specs.Format.{mark_length, box_length, plug_length, note_kind};
 ghost use Rattle.formats.specs.Format.{mark_bytes, number_bytes, box_record, plug_record};
-ghost use Rattle.formats.specs.Format.{mark_at, number_at, file_box_at, file_plug_at};
+ghost use Rattle.formats.specs.Format.{mark_at, number_at};
 ghost use Rattle.formats.specs.Content.{stops_before};
-ghost use Rattle.formats.specs.Promises.{edges, coordinates};
-ghost use Rattle.file_records.specs.Records.{refused_or, record_of, record_at, over};
+ghost use Rattle.file_records.specs.Records.{refused_or, record_of, record_at, numbers_at, over};
 
 use plane::Point;
 use rounds::{Box, Cause, Refusal};
@@ -139,25 +137,14 @@ fn number_at(file: &[u8], at: usize) -> i32
     i32::from_be_bytes([file[at], file[at + 1], file[at + 2], file[at + 3]])
 }
 
-// Puts the box whose numbers start at an offset of a file into a buffer, from `to` on.
-pub fn put_box(file: &[u8], from: usize, boxes: &mut [i32], to: usize)
-    requires { (from + 15 < length file.now) × (to + 3 < length boxes.old) }
-    ensures { boxes.new ≡ over boxes.old to (edges (file_box_at file.now from)) }
+// Puts as many numbers as a buffer has room for, from an offset of a file on, into the buffer.
+pub fn put_numbers(file: &[u8], from: usize, numbers: &mut [i32])
+    requires { from + 4 * length numbers.old ≤ length file.now }
+    ensures { numbers.new ≡ numbers_at file.now from (length numbers.old) }
 {
-    boxes[to] = number_at(file, from);
-    boxes[to + 1] = number_at(file, from + 4);
-    boxes[to + 2] = number_at(file, from + 8);
-    boxes[to + 3] = number_at(file, from + 12);
-}
-
-// Puts the plug whose numbers start at an offset of a file into a buffer, from `to` on.
-pub fn put_plug(file: &[u8], from: usize, plugs: &mut [i32], to: usize)
-    requires { (from + 7 < length file.now) × (to + 1 < length plugs.old) }
-    ensures { plugs.new ≡
-        over plugs.old to (coordinates (file_plug_at file.now from)) }
-{
-    plugs[to] = number_at(file, from);
-    plugs[to + 1] = number_at(file, from + 4);
+    for (k, number) in numbers.iter_mut().enumerate() {
+        *number = number_at(file, from + NUMBER_LENGTH * k);
+    }
 }
 
 // Writes a mark at an offset.
@@ -176,17 +163,23 @@ fn write_number(number: i32, file: &mut [u8], at: usize)
     file[at..at + NUMBER_LENGTH].copy_from_slice(&number.to_be_bytes());
 }
 
+// Writes a record at an offset: its mark, then its numbers.
+fn write_record(mark: u16, numbers: &[i32], file: &mut [u8], at: usize)
+    requires { at + mark_length + 4 * length numbers.now ≤ length file.old }
+    ensures { file.new ≡ over file.old at (mark_bytes mark ++ flat_map number_bytes numbers.now) }
+{
+    write_mark(mark, file, at);
+    for (k, number) in numbers.iter().enumerate() {
+        write_number(*number, file, at + MARK_LENGTH + NUMBER_LENGTH * k);
+    }
+}
+
 // Writes a box at an offset.
 pub fn write_box(b: Box, file: &mut [u8], at: usize)
     requires { at + box_length ≤ length file.old }
     ensures { file.new ≡ over file.old at (box_record b) }
 {
-    write_mark(BOX_MARK, file, at);
-    let from = at + MARK_LENGTH;
-    write_number(b.west, file, from);
-    write_number(b.south, file, from + 4);
-    write_number(b.east, file, from + 8);
-    write_number(b.north, file, from + 12);
+    write_record(BOX_MARK, &[b.west, b.south, b.east, b.north], file, at);
 }
 
 // Writes a plug at an offset.
@@ -194,8 +187,5 @@ pub fn write_plug(plug: Point, file: &mut [u8], at: usize)
     requires { at + plug_length ≤ length file.old }
     ensures { file.new ≡ over file.old at (plug_record plug) }
 {
-    write_mark(PLUG_MARK, file, at);
-    let from = at + MARK_LENGTH;
-    write_number(plug.east, file, from);
-    write_number(plug.north, file, from + 4);
+    write_record(PLUG_MARK, &[plug.east, plug.north], file, at);
 }

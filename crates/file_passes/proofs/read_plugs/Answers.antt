@@ -1,7 +1,10 @@
 -- `file_passes::read_plugs` meets its contract. The invariant: the first k of the plugs are in the buffer, and the rest are those of what stands from
 -- `at` on, which has no fault. The measure: what is left of the file. Assumes nothing.
+use Prim.Native.Nat.{◌+◌, ◌-◌, ◌*◌}
 use native.Mathlib.Omega.{arith}
+use lib.ListN.{drop, length-take}
 use Rattle.file_records.proofs.Over.{wrote_length}
+use Rattle.file_records.proofs.Writer.{part_put, coordinates_are}
 use Rattle.file_records.proofs.Records.{found, not_found, next_is}
 use Rattle.file_passes.proofs.Plugs.{plugs_start, plugs_plug, plugs_note, plugs_box, no_end, no_fault, plugs_all}
 use Rattle.file_passes.proofs.read_plugs.Goals as goal
@@ -9,16 +12,17 @@ use Rattle.file_passes.proofs.read_plugs.Goals as goal
 pub loop-k-init : goal.loop-k-init
 loop-k-init c = (c.requires.within, omega arith, plugs_start c.requires)
 
-pub put_plug-requires : goal.put_plug-requires
-put_plug-requires c =
-    (omega (arith, next_is (found c.in-Ok-Plug.ensures c.in-Ok-Plug.field-0-is)), omega (arith, c.requires.for_plugs, c.loop-k-test.true, wrote_length c.loop-k.invariant.2.wrote))
+pub put_numbers-requires : goal.put_numbers-requires
+put_numbers-requires c =
+    let l = length-take (c.loop-k.k * 2 + 2 - c.loop-k.k * 2) (drop (c.loop-k.k * 2) c.loop-k.plugs) in
+    omega (arith, l, next_is (found c.in-Ok-Plug.ensures c.in-Ok-Plug.field-0-is))
 
 pub loop-k-smaller-in-Ok-Plug : goal.loop-k-smaller-in-Ok-Plug
 loop-k-smaller-in-Ok-Plug c = omega (arith, next_is (found c.in-Ok-Plug.ensures c.in-Ok-Plug.field-0-is))
 
 pub loop-k-preserved-in-Ok-Plug : goal.loop-k-preserved-in-Ok-Plug
 loop-k-preserved-in-Ok-Plug c =
-    ((next_is (found c.in-Ok-Plug.ensures c.in-Ok-Plug.field-0-is)).1, omega (arith, c.loop-k-test.true), plugs_plug c.requires c.loop-k.invariant.2 c.loop-k-test.true (found c.in-Ok-Plug.ensures c.in-Ok-Plug.field-0-is) c.put_plug.ensures)
+    ((next_is (found c.in-Ok-Plug.ensures c.in-Ok-Plug.field-0-is)).1, omega (arith, c.loop-k-test.true), plugs_plug c.requires c.loop-k.invariant.2 c.loop-k-test.true (found c.in-Ok-Plug.ensures c.in-Ok-Plug.field-0-is) (part_put _ _ c.loop-k.plugs (c.loop-k.k * 2) 2 (omega (arith, c.requires.for_plugs, c.loop-k-test.true, wrote_length c.loop-k.invariant.2.wrote)) (coordinates_are _ _) c.put_numbers.ensures))
 
 pub loop-k-smaller-in-Ok-Note : goal.loop-k-smaller-in-Ok-Note
 loop-k-smaller-in-Ok-Note c = omega (arith, next_is (found c.in-Ok-Note.ensures c.in-Ok-Note.field-0-is))
