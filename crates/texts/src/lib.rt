@@ -12,20 +12,16 @@ const THREE_DIGITS: usize = 100;
 
 const FIVE_DIGITS: usize = 10000;
 
-// The ASCII code of the digit 0.
-const ZERO: u8 = 48;
+// The digit 0.
+const ZERO: u8 = b'0';
 
 // Writes bytes.
 pub fn write_bytes(bytes: &[u8], out: &mut [u8]) -> usize
     requires { length bytes.now ≤ length out.old }
     ensures { Wrote bytes.now out.old result out.new }
 {
-    let mut i: usize = 0;
-    while i < bytes.len() {
-        out[i] = bytes[i];
-        i += 1;
-    }
-    i
+    out[..bytes.len()].copy_from_slice(bytes);
+    bytes.len()
 }
 
 // Writes a number of one or two digits in base ten.

@@ -47,7 +47,7 @@ pub write_plugs-requires : goal.write_plugs-requires
 write_plugs-requires c = omega (arith, fits_buffer _ _ (sym c.in_ok-check_buffer.ensures))
 
 pub write_mark-requires : goal.write_mark-requires
-write_mark-requires c = (omega arith, omega (arith, fits_buffer _ _ (sym c.in_ok-check_buffer.ensures)))
+write_mark-requires c = omega (arith, fits_buffer _ _ (sym c.in_ok-check_buffer.ensures))
 
 pub returns : goal.returns
 returns c =
