@@ -1,5 +1,7 @@
 // The records of the round file (docs/SCOPE.md 5.1), one at a time: what stands at an offset, and its numbers; a box,
 // a plug and a mark written at an offset. Crate `formats` says what a record is.
+// A file and an offset stay two arguments: the passes keep, return and take offsets, and a struct of both would be taken
+// apart again at each of them.
 #![tactic(auto)]
 
 ghost use Rattle.std.specs.Prelude.{◌+◌, ◌*◌, ◌≤◌, ◌<◌, false, ◌≡◌, ◌++◌, length};
@@ -12,6 +14,8 @@ ghost use Rattle.file_records.specs.Records.{refused_or, record_of, record_at, n
 
 use plane::Point;
 use rounds::{Box, Cause, Refusal};
+
+// Marks are numbers, as a note has any of 256: an enum of marks would be matched twice, from its number and by kind.
 
 // A box's mark.
 const BOX_MARK: u16 = 0x5B01;

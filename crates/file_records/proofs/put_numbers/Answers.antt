@@ -4,12 +4,8 @@ use native.Mathlib.Omega.{arith}
 use mir.Syntax.{w32}
 use mir.ValLaws.{to_z-of_z}
 use Rattle.integers.proofs.Tests.{ok}
-use Rattle.file_records.proofs.Over.{wrote_none}
 use Rattle.file_records.proofs.Writer.{number_put, numbers_put}
 use Rattle.file_records.proofs.put_numbers.Goals as goal
-
-pub loop-k-init : goal.loop-k-init
-loop-k-init c = wrote_none c.args.numbers.now 0 (omega arith)
 
 pub loop-k-preserved : goal.loop-k-preserved
 loop-k-preserved c =

@@ -21,20 +21,10 @@ bounds-out-count c = let w = c.write_two-count in
     let r = room c.args.number c.if-number-lt-THREE_DIGITS.false c.requires w.ensures.counted w.auto.out in
     omega (arith, r)
 
-pub overflow_add-out-3 : goal.overflow_add-out-3
-overflow_add-out-3 c = let w = c.write_two-count in
-    let r = room c.args.number c.if-number-lt-THREE_DIGITS.false c.requires w.ensures.counted w.auto.out in
-    omega (arith, r)
-
 pub bounds-out-count-2 : goal.bounds-out-count-2
 bounds-out-count-2 c = let w = c.write_two-count in
     let r = room c.args.number c.if-number-lt-THREE_DIGITS.false c.requires w.ensures.counted w.auto.out in
     simp length-set (omega (arith, r))
-
-pub overflow_add-result : goal.overflow_add-result
-overflow_add-result c = let w = c.write_two-count in
-    let r = room c.args.number c.if-number-lt-THREE_DIGITS.false c.requires w.ensures.counted w.auto.out in
-    omega (arith, r)
 
 pub returns : goal.returns
 returns c =

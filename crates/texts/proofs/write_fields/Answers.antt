@@ -6,7 +6,7 @@ use native.Mathlib.Omega.{arith}
 use lib.ListN.{length, take, drop, length-append}
 use Rattle.texts.specs.Decimals.{decimal}
 use Rattle.texts.specs.Text.{ascii, Wrote}
-use Rattle.texts.proofs.Writing.{then_wrote, room_after, room_behind, wrote_as}
+use Rattle.texts.proofs.Writing.{then_wrote, wrote_as}
 use Rattle.texts.proofs.write_fields.Goals as goal
 
 -- there is room for two fields and a line feed
@@ -22,53 +22,6 @@ module _ {one two xs ys zs : List ℕ} {n m : ℕ} (r : length one + length two 
   -- they leave room for the line feed
   both_room : length (one ++ two) + 1 ≤ length xs
   both_room = omega (arith, length-append one two)
-
-pub write_field-n-requires : goal.write_field-n-requires
-write_field-n-requires c = omega (arith, c.requires)
-
-pub slice_bounds-write_field-count : goal.slice_bounds-write_field-count
-slice_bounds-write_field-count c =
-    omega (arith, room_after 0 c.write_field-n.ensures (omega (arith, room c.args.first.now (decimal c.args.a) c.args.second.now (decimal c.args.b) c.requires)))
-
-pub slice_bounds-write_field-start : goal.slice_bounds-write_field-start
-slice_bounds-write_field-start c =
-    omega (arith, room_after 0 c.write_field-n.ensures (omega (arith, room c.args.first.now (decimal c.args.a) c.args.second.now (decimal c.args.b) c.requires)))
-
-pub write_field-requires : goal.write_field-requires
-write_field-requires c =
-    let r = room c.args.first.now (decimal c.args.a) c.args.second.now (decimal c.args.b) c.requires in
-    rw (← length-append c.args.second.now (decimal c.args.b))
-    (room_behind (length (c.args.second.now ++ decimal c.args.b)) c.write_field-n.ensures (omega arith))
-
-pub overflow_add-m : goal.overflow_add-m
-overflow_add-m c =
-    let r = room c.args.first.now (decimal c.args.a) c.args.second.now (decimal c.args.b) c.requires in
-    let w = c.write_field-n.ensures in
-    omega (arith, (both r w c.write_field.ensures).counted, both_room r w c.write_field.ensures, c.well_formed)
-
-pub slice_bounds-write_bytes-count : goal.slice_bounds-write_bytes-count
-slice_bounds-write_bytes-count c =
-    let r = room c.args.first.now (decimal c.args.a) c.args.second.now (decimal c.args.b) c.requires in
-    let w = c.write_field-n.ensures in
-    omega (arith, room_after 1 (both r w c.write_field.ensures) (both_room r w c.write_field.ensures))
-
-pub slice_bounds-write_bytes-start : goal.slice_bounds-write_bytes-start
-slice_bounds-write_bytes-start c =
-    let r = room c.args.first.now (decimal c.args.a) c.args.second.now (decimal c.args.b) c.requires in
-    let w = c.write_field-n.ensures in
-    omega (arith, room_after 1 (both r w c.write_field.ensures) (both_room r w c.write_field.ensures))
-
-pub write_bytes-requires : goal.write_bytes-requires
-write_bytes-requires c =
-    let r = room c.args.first.now (decimal c.args.a) c.args.second.now (decimal c.args.b) c.requires in
-    let w = c.write_field-n.ensures in
-    room_behind 1 (both r w c.write_field.ensures) (both_room r w c.write_field.ensures)
-
-pub overflow_add-result : goal.overflow_add-result
-overflow_add-result c =
-    let r = room c.args.first.now (decimal c.args.a) c.args.second.now (decimal c.args.b) c.requires in
-    let w = c.write_field-n.ensures in
-    omega (arith, room_after 1 (both r w c.write_field.ensures) (both_room r w c.write_field.ensures))
 
 pub returns : goal.returns
 returns c =
