@@ -60,6 +60,7 @@ fn widen_in_line(a: CornerKey, v: CornerKey, plug: u32) -> Cone
 }
 
 // The cone of a ray and of one more point.
+#[tactic(auto, using(crate::proofs::Wider::found_says))]
 fn widen_ray(a: CornerKey, v: CornerKey, plug: u32) -> Cone
     requires { Key a.key × Key v.key × Key plug }
     ensures exact { result ≡ cone_with plug (Cone.Ray a) v }
@@ -73,6 +74,7 @@ fn widen_ray(a: CornerKey, v: CornerKey, plug: u32) -> Cone
 }
 
 // The cone of a line and of one more point.
+#[tactic(auto, using(crate::proofs::Wider::found_says))]
 fn widen_line(a: CornerKey, b: CornerKey, v: CornerKey, plug: u32) -> Cone
     requires { Key a.key × Key v.key × Key plug }
     ensures exact { result ≡ cone_with plug (Cone.Line a b) v }
@@ -86,6 +88,7 @@ fn widen_line(a: CornerKey, b: CornerKey, v: CornerKey, plug: u32) -> Cone
 }
 
 // The cone of a wedge and of one more point: where it is right of the one ray or left of the other, it takes its place.
+#[tactic(auto, using(crate::proofs::Wider::found_says))]
 fn widen_wedge(a: CornerKey, b: CornerKey, v: CornerKey, plug: u32) -> Cone
     requires { Key a.key × Key b.key × Key v.key × Key plug }
     ensures exact { result ≡ cone_with plug (Cone.Wedge a b) v }
@@ -113,6 +116,7 @@ fn widen_wedge(a: CornerKey, b: CornerKey, v: CornerKey, plug: u32) -> Cone
 }
 
 // The cone of a half-plane and of one more point.
+#[tactic(auto, using(crate::proofs::Wider::found_says))]
 fn widen_half(a: CornerKey, b: CornerKey, v: CornerKey, plug: u32) -> Cone
     requires { Key a.key × Key v.key × Key plug }
     ensures exact { result ≡ cone_with plug (Cone.Half a b) v }
@@ -120,12 +124,12 @@ fn widen_half(a: CornerKey, b: CornerKey, v: CornerKey, plug: u32) -> Cone
 {
     match turns::turn_of(plug, a.key, v.key) {
         Turn::Right => Cone::Around(a, b, v),
-        Turn::Straight => Cone::Half(a, b),
-        Turn::Left => Cone::Half(a, b),
+        Turn::Straight | Turn::Left => Cone::Half(a, b),
     }
 }
 
 // The cone of the points so far and of one more.
+#[tactic(auto, using(crate::proofs::Wider::found_says))]
 pub fn widen(cone: Cone, v: CornerKey, plug: u32) -> Cone
     requires { Key v.key × Key plug × Keyed cone }
     ensures exact { result ≡ cone_with plug cone v }

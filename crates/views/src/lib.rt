@@ -16,6 +16,14 @@ use cones::{Cone, CornerKey};
 use passes::CornerSet;
 use rounds::Corner;
 
+// The four corners of a box, in the order in which they are looked at.
+const CORNERS: [Corner; 4] = [
+    Corner::SouthWest,
+    Corner::SouthEast,
+    Corner::NorthEast,
+    Corner::NorthWest,
+];
+
 // The points so far, as seen from the plug.
 #[derive(Clone, Copy)]
 pub struct View {
@@ -59,23 +67,6 @@ fn corner_count(set: CornerSet) -> usize
     }
 }
 
-// One of the four corners by its place, from 0.
-fn nth_of_four(j: usize) -> Corner
-    requires { j < 4 }
-    ensures { result ≡ nth_name CornerSet.Four j }
-{
-    if j == 0 {
-        return Corner::SouthWest;
-    }
-    if j == 1 {
-        return Corner::SouthEast;
-    }
-    if j == 2 {
-        return Corner::NorthEast;
-    }
-    Corner::NorthWest
-}
-
 // One of the corners that are looked at by its place, from 0.
 fn nth_name(set: CornerSet, j: usize) -> Corner
     requires { j < length (names_in set) }
@@ -83,7 +74,7 @@ fn nth_name(set: CornerSet, j: usize) -> Corner
 {
     match set {
         CornerSet::One(corner) => corner,
-        CornerSet::Four => nth_of_four(j),
+        CornerSet::Four => CORNERS[j],
     }
 }
 

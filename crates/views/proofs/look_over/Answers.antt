@@ -72,9 +72,6 @@ module _ (plug : ℕ) (set : CornerSet) (bs : List Box) (start : View) (cone : C
       → found ≡ cond (is_around wider) (seen wider hit) (further (seen wider hit))
   whole {wider = wider} {hit = hit} b a m = next b a ∙ ends_box plug set bs (seen wider hit) k (j + 1) b.in_list m
 
-pub pass_cone-k-requires : goal.pass_cone-k-requires
-pass_cone-k-requires c = (omega arith, c.requires.0, c.requires.1)
-
 pub loop-k-init : goal.loop-k-init
 loop-k-init c =
     let bs = boxes_of c.args.boxes.numbers.now in
@@ -87,21 +84,6 @@ loop-k-init c =
           passes_on c.args.plug c.args.set bs c.args.start 0 c.pass_cone-k.result e
           ∙ sym (rest_all c.args.plug c.args.set (suc c.pass_cone-k.result) c.args.start (drop c.pass_cone-k.result bs));
     }
-
-pub nth_name-corner-requires : goal.nth_name-corner-requires
-nth_name-corner-requires c = c.loop-k.invariant.place
-
-pub nth_corner-v-requires : goal.nth_corner-v-requires
-nth_corner-v-requires c = omega arith
-
-pub widen-cone-requires : goal.widen-cone-requires
-widen-cone-requires c =
-    let bs = boxes_of c.args.boxes.numbers.now in
-    let x = c.nth_corner-v.ensures.exact ∙ ap (numbered (suc c.loop-k.k) (nth_box bs c.loop-k.k)) c.nth_name-corner.ensures in
-    (has_key c.args.set bs c.loop-k.k c.loop-k.j c.args.boxes.accepted.in_span (omega (arith, boxes_length c.args.boxes.numbers.now)) x, c.requires.0, c.loop-k.invariant.keyed)
-
-pub overflow_add-j : goal.overflow_add-j
-overflow_add-j c = omega (arith, c.loop-k.invariant.place, (few-names c.args.set).1)
 
 pub returns-in-Around : goal.returns-in-Around
 returns-in-Around c =
@@ -119,9 +101,6 @@ returns-in-Around c =
     ∙ ap (λ b. cond b w (further c.args.plug c.args.set bs c.args.start c.loop-k.cone c.loop-k.met c.loop-k.k c.loop-k.j w)) (ap is_around c.in-Around.is)) in
     record { exact = e; looks_over = subst (LooksOver bs (point_of c.args.plug) c.args.start c.args.set) (sym e) (looks_over c.args.plug bs c.args.boxes.accepted.in_span c.args.set c.args.start) }
 
-pub overflow_add-k : goal.overflow_add-k
-overflow_add-k c = omega arith
-
 pub pass_cone-k-requires-then-j-each : goal.pass_cone-k-requires-then-j-each
 pass_cone-k-requires-then-j-each c =
     let bs = boxes_of c.args.boxes.numbers.now in
@@ -132,11 +111,6 @@ pass_cone-k-requires-then-j-each c =
           (keyed_with c.args.plug c.nth_corner-v.result
           (has_key c.args.set bs c.loop-k.k c.loop-k.j c.args.boxes.accepted.in_span (omega (arith, boxes_length c.args.boxes.numbers.now)) x) c.loop-k.cone c.loop-k.invariant.keyed),
     )
-
-pub loop-k-smaller-then-j-each : goal.loop-k-smaller-then-j-each
-loop-k-smaller-then-j-each c =
-    let e = c.pass_cone-k-then-j-each.ensures.keeps in
-    omega (arith, boxes_length c.args.boxes.numbers.now, e.from, e.upto, c.loop-k.invariant.place, (few-names c.args.set).1)
 
 pub loop-k-preserved-then-j-each : goal.loop-k-preserved-then-j-each
 loop-k-preserved-then-j-each c =
@@ -164,10 +138,6 @@ loop-k-preserved-then-j-each c =
           ∙ passes_on c.args.plug c.args.set bs w (c.loop-k.k + 1) r e
           ∙ sym (rest_all c.args.plug c.args.set (suc r) w (drop r bs));
     }
-
-pub loop-k-smaller : goal.loop-k-smaller
-loop-k-smaller c =
-    omega (arith, boxes_length c.args.boxes.numbers.now, c.loop-k.invariant.place, (few-names c.args.set).1)
 
 pub loop-k-preserved : goal.loop-k-preserved
 loop-k-preserved c =

@@ -2,16 +2,11 @@
 use Rattle.std.specs.Prelude.{Some}
 use mathlib.Core.Path.{sym, ap, subst}
 use mathlib.Core.Bool.{cond}
-use borrow.Author.Tests.{eq-eqb, ne_eqb}
+use borrow.Author.Tests.{ne_eqb}
 use Rattle.turns.specs.Keys.{point_of}
 use Rattle.views.specs.Views.{MetOn}
 use Rattle.views.proofs.Viewing.{met_says}
 use Rattle.views.proofs.meet.Goals as goal
-
-pub returns-then-v-plug : goal.returns-then-v-plug
-returns-then-v-plug c =
-    let e = ap (λ t. cond t (Some c.args.v) c.args.met) (sym (eq-eqb _ _ c.if-v-plug.true)) in
-    record { exact = e; met_on = subst (MetOn (point_of c.args.plug) c.args.met c.args.v) (sym e) (met_says c.args.plug c.args.met c.args.v) }
 
 pub returns : goal.returns
 returns c =
