@@ -12,6 +12,7 @@ use polygons::VertexCounts;
 use rounds::Refusal;
 
 // Writes the outer polygon and the zeros after it.
+#[tactic(auto, using(outlines::proofs::Polygons::all_length))]
 fn list_outer(boxes: Boxes, answer: &mut [i32]) -> usize
     requires { needed boxes.numbers.now ≤ length answer.old }
     ensures { OuterStands boxes.entry.numbers.now answer.old result answer.new }
@@ -23,6 +24,8 @@ fn list_outer(boxes: Boxes, answer: &mut [i32]) -> usize
 }
 
 // Writes the corner polygons and the zeros after them.
+// The two pairs of calls stay apart: one pair would take the writer as a closure, with its contract, to save four lines.
+#[tactic(auto, using(corners::proofs::Places::corners_length))]
 fn list_corners(boxes: Boxes, answer: &mut [i32]) -> VertexCounts
     requires { needed boxes.numbers.now ≤ length answer.old }
     ensures { CornersStand boxes.entry.numbers.now answer.old result answer.new }

@@ -176,6 +176,7 @@ fn first_outline(boxes: Boxes, vertices: &mut [u32], keys: &mut [u32], mirror: &
 
 // The outer polygon and the corner polygons SW, SE, NE, NW, one behind another at the front of vertices, each in the
 // part that the earlier ones left free. What the scratch holds is lost.
+#[tactic(auto, using(corners::proofs::Places::corners_length, crate::proofs::Polygons::all_length))]
 pub fn round_outlines(
     boxes: Boxes,
     vertices: &mut [u32],

@@ -40,6 +40,7 @@ pub struct VertexCounts {
 }
 
 // Writes the outer polygon over the front of answer, in lent scratch. What the scratch holds is lost.
+#[tactic(auto, using(outlines::proofs::Polygons::all_length))]
 fn write_outer_in(
     boxes: Boxes,
     answer: &mut [i32],

@@ -15,23 +15,6 @@ use Rattle.areas.proofs.list_corners.Goals as goal
 room : (l : List ℤ) {d xs : List ℤ} (n : VertexCounts) → CornersWritten (boxes_of l) d n xs → sum n * 2 ≤ length l / 4 * 8
 room l n w = omega (arith, few _ l w.southwest.few, few _ l w.southeast.few, few _ l w.northeast.few, few _ l w.northwest.few)
 
-pub overflow_add-end : goal.overflow_add-end
-overflow_add-end c = let w = c.write_corners-counts in omega (arith, room c.args.boxes.numbers.now w.result w.ensures)
-
-pub overflow_add-end-2 : goal.overflow_add-end-2
-overflow_add-end-2 c = let w = c.write_corners-counts in omega (arith, room c.args.boxes.numbers.now w.result w.ensures)
-
-pub overflow_add-end-3 : goal.overflow_add-end-3
-overflow_add-end-3 c = let w = c.write_corners-counts in omega (arith, room c.args.boxes.numbers.now w.result w.ensures)
-
-pub overflow_mul-end : goal.overflow_mul-end
-overflow_mul-end c = let w = c.write_corners-counts in omega (arith, room c.args.boxes.numbers.now w.result w.ensures)
-
-pub clear-requires : goal.clear-requires
-clear-requires c =
-    let w = c.write_corners-counts in
-    let few = room c.args.boxes.numbers.now w.result w.ensures in (omega (arith, few), omega (arith, c.requires))
-
 pub returns : goal.returns
 returns c =
     let l = c.args.boxes.numbers.now in

@@ -14,13 +14,6 @@ use Rattle.areas.proofs.list_outer.Goals as goal
 room : (l : List ℤ) → BoxList l → {d xs : List ℤ} {count : ℕ} → PolygonWritten (all_corners (boxes_of l)) 0 d count xs → count * 2 ≤ length l / 4 * 8
 room l bl w = omega (arith, w.made.few, bl.whole, all_length l bl.whole)
 
-pub overflow_mul-end : goal.overflow_mul-end
-overflow_mul-end c = omega (arith, room c.args.boxes.numbers.now c.args.boxes.accepted c.write_outer-count.ensures)
-
-pub clear-requires : goal.clear-requires
-clear-requires c =
-    let few = room c.args.boxes.numbers.now c.args.boxes.accepted c.write_outer-count.ensures in (omega (arith, few), omega (arith, c.requires))
-
 pub returns : goal.returns
 returns c =
     let l = c.args.boxes.numbers.now in

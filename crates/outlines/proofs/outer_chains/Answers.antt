@@ -55,11 +55,10 @@ upper_chain-ku-requires-clause-key c =
     (e.first_in.key, front_keys k.new.list (omega (arith, k.ensures.few, c.requires.outer_room.in_list)) k.ensures (λ x h. h), e.last_in.key)
 
 pub upper_chain-kl-requires-clause-keys_in_bounds : goal.upper_chain-kl-requires-clause-keys_in_bounds
-upper_chain-kl-requires-clause-keys_in_bounds c =
-    (
-      simp length-take (omega (arith, c.lower_keys-v.ensures.few, c.requires.outer_room.in_keys)),
-      rw (c.reflected.ensures, c.reflected-2.ensures) (reflected_less c.requires.point_ends.0.last_in.key c.requires.point_ends.1),
-    )
+upper_chain-kl-requires-clause-keys_in_bounds c = (
+  simp length-take (omega (arith, c.lower_keys-v.ensures.few, c.requires.outer_room.in_keys)),
+  rw (c.reflected.ensures, c.reflected-2.ensures) (reflected_less c.requires.point_ends.0.last_in.key c.requires.point_ends.1),
+)
 
 pub upper_chain-kl-requires-clause-sorted : goal.upper_chain-kl-requires-clause-sorted
 upper_chain-kl-requires-clause-sorted c =
@@ -70,8 +69,7 @@ upper_chain-kl-requires-clause-sorted c =
 pub upper_chain-kl-requires-clause-key : goal.upper_chain-kl-requires-clause-key
 upper_chain-kl-requires-clause-key c =
     let k = c.lower_keys-v in
-    let e = c.requires.point_ends.0 in
-    (
+    let e = c.requires.point_ends.0 in (
       rw c.reflected.ensures (reflected_key e.last_in.key),
       front_keys k.new.list (omega (arith, k.ensures.few, c.requires.outer_room.in_list)) k.ensures (λ x h. reflected_key h),
       rw c.reflected-2.ensures (reflected_key e.first_in.key),
@@ -86,11 +84,11 @@ append_reflected-requires c =
     let below = c.upper_chain-kl in
     let long = whole_length above.result above.new.stack m.new.scratch (omega (arith, above.ensures.few, k.ensures.few, room.in_vertices, length-take k.result k.new.list)) m.auto.scratch in
     let few = many c.args.boxes.numbers.now c.args.boxes.accepted c.args.ends.first c.args.ends.last _ _ c.requires.point_ends.1 c.requires.point_ends.0 k.new.list m.new.list _ _
-        (omega (arith, k.ensures.few, room.in_list)) (omega (arith, m.ensures.few, room.in_list)) k.ensures m.ensures above.new.stack below.new.stack _ _ above.ensures
-        c.reflected.ensures c.reflected-2.ensures below.ensures in
+    (omega (arith, k.ensures.few, room.in_list)) (omega (arith, m.ensures.few, room.in_list)) k.ensures m.ensures above.new.stack below.new.stack _ _ above.ensures
+    c.reflected.ensures c.reflected-2.ensures below.ensures in
     let keys = both c.args.boxes.numbers.now c.args.boxes.accepted c.args.ends.first c.args.ends.last _ _ c.requires.point_ends.1 c.requires.point_ends.0 k.new.list m.new.list _ _
-        (omega (arith, k.ensures.few, room.in_list)) (omega (arith, m.ensures.few, room.in_list)) k.ensures m.ensures above.new.stack below.new.stack _ _ above.ensures
-        c.reflected.ensures c.reflected-2.ensures below.ensures in
+    (omega (arith, k.ensures.few, room.in_list)) (omega (arith, m.ensures.few, room.in_list)) k.ensures m.ensures above.new.stack below.new.stack _ _ above.ensures
+    c.reflected.ensures c.reflected-2.ensures below.ensures in
     record {
       count_in_bounds = (omega (arith, below.ensures.few, m.ensures.few, room.in_keys, length-take m.result m.new.list), omega (arith, few, long, room.in_vertices));
       all_keys = keys.lower;

@@ -20,24 +20,6 @@ outer_few l bl p = omega (arith, p.few, all_length l bl.whole, bl.whole)
 two_few : (l : List ℤ) (a b : Corner) {from n m : ℕ} {x y : List ℕ} → TwoBehind (corners_of a (boxes_of l)) (corners_of b (boxes_of l)) from x n m y → n + m ≤ 2 * (length l / 4)
 two_few l a b t = omega (arith, t.behind.few, corners_length a l, t.next.few, corners_length b l)
 
-pub append_two_outlines-southwest-requires-clause-room : goal.append_two_outlines-southwest-requires-clause-room
-append_two_outlines-southwest-requires-clause-room c = omega (arith, outer_few c.args.boxes.numbers.now c.args.boxes.accepted c.first_outline-outer.ensures)
-
-pub overflow_add-next : goal.overflow_add-next
-overflow_add-next c =
-    let l = c.args.boxes.numbers.now in
-    omega (arith, outer_few l c.args.boxes.accepted c.first_outline-outer.ensures, two_few l SouthWest SouthEast c.append_two_outlines-southwest.ensures, c.args.boxes.accepted.few)
-
-pub overflow_add-next-2 : goal.overflow_add-next-2
-overflow_add-next-2 c =
-    let l = c.args.boxes.numbers.now in
-    omega (arith, outer_few l c.args.boxes.accepted c.first_outline-outer.ensures, two_few l SouthWest SouthEast c.append_two_outlines-southwest.ensures, c.args.boxes.accepted.few)
-
-pub append_two_outlines-northeast-requires-clause-room : goal.append_two_outlines-northeast-requires-clause-room
-append_two_outlines-northeast-requires-clause-room c =
-    let l = c.args.boxes.numbers.now in
-    omega (arith, outer_few l c.args.boxes.accepted c.first_outline-outer.ensures, two_few l SouthWest SouthEast c.append_two_outlines-southwest.ensures)
-
 pub returns : goal.returns
 returns c =
     let l = c.args.boxes.numbers.now in

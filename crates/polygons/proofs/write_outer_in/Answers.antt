@@ -6,11 +6,6 @@ use Rattle.outlines.proofs.Polygons.{all_length}
 use Rattle.polygons.proofs.Behind.{written}
 use Rattle.polygons.proofs.write_outer_in.Goals as goal
 
-pub slice_bounds-write_vertices-end : goal.slice_bounds-write_vertices-end
-slice_bounds-write_vertices-end c =
-    let whole = c.args.boxes.accepted.whole in
-    omega (arith, c.quartered_outline-count.ensures.few, all_length c.args.boxes.numbers.now whole, whole, c.requires.outer_room)
-
 pub slice_bounds-write_vertices-end-2 : goal.slice_bounds-write_vertices-end-2
 slice_bounds-write_vertices-end-2 c =
     let whole = c.args.boxes.accepted.whole in
