@@ -16,20 +16,19 @@ pub fn judge_form(file: &[u8]) -> Result<Counts, Refusal>
     ensures { result ≡ judgement file.now }
 {
     let mut at: usize = 0;
-    let mut boxes: usize = 0;
-    let mut plugs: usize = 0;
+    let mut counts = Counts { boxes: 0, plugs: 0 };
     loop {
-        match file_records::next_record(file, at, 0 < plugs)? {
+        match file_records::next_record(file, at, 0 < counts.plugs)? {
             Record::Box(next) => {
-                boxes += 1;
+                counts.boxes += 1;
                 at = next;
             }
             Record::Plug(next) => {
-                plugs += 1;
+                counts.plugs += 1;
                 at = next;
             }
             Record::Note(next) => at = next,
-            Record::End => return Ok(Counts { boxes, plugs }),
+            Record::End => return Ok(counts),
         }
     }
 }

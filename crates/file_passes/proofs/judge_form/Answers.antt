@@ -13,8 +13,8 @@ loop-next-init c = (omega arith, judged_start _)
 pub returns-in_err-next : goal.returns-in_err-next
 returns-in_err-next c = passed_on c.from_residual.result c.from_residual.ensures.1 ∙ judged_fault c.loop-next.invariant.1 (not_found c.in_err-next.ensures)
 
-pub overflow_add-boxes : goal.overflow_add-boxes
-overflow_add-boxes c = omega (arith, few_boxes c.loop-next.invariant.1 (found c.in_ok-next.ensures c.in-Box.is))
+pub overflow_add-counts : goal.overflow_add-counts
+overflow_add-counts c = omega (arith, few_boxes c.loop-next.invariant.1 (found c.in_ok-next.ensures c.in-Box.is))
 
 pub loop-next-smaller-in-Box : goal.loop-next-smaller-in-Box
 loop-next-smaller-in-Box c = omega (arith, next_is (found c.in_ok-next.ensures c.in-Box.is))
@@ -24,8 +24,8 @@ loop-next-preserved-in-Box c =
     let box = found c.in_ok-next.ensures c.in-Box.is in
     ((next_is box).1, judged_box c.loop-next.invariant.1 box)
 
-pub overflow_add-plugs : goal.overflow_add-plugs
-overflow_add-plugs c = omega (arith, few_plugs c.loop-next.invariant.1 (found c.in_ok-next.ensures c.in-Plug.is))
+pub overflow_add-counts-in-Plug : goal.overflow_add-counts-in-Plug
+overflow_add-counts-in-Plug c = omega (arith, few_plugs c.loop-next.invariant.1 (found c.in_ok-next.ensures c.in-Plug.is))
 
 pub loop-next-smaller-in-Plug : goal.loop-next-smaller-in-Plug
 loop-next-smaller-in-Plug c = omega (arith, next_is (found c.in_ok-next.ensures c.in-Plug.is))

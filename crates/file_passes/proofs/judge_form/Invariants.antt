@@ -8,7 +8,7 @@ use Rattle.file_passes.proofs.Judging.{Judged}
 use Rattle.file_passes.proofs.judge_form.Given as goal
 
 abbrev pub invariant-loop-next : goal.invariant-loop-next
-invariant-loop-next l = (l.at ≤ length l.file) × Judged l.file l.boxes l.plugs (scan l.file l.at (ltb 0 l.plugs))
+invariant-loop-next l = (l.at ≤ length l.file) × Judged l.file l.counts.boxes l.counts.plugs (scan l.file l.at (ltb 0 l.counts.plugs))
 
 abbrev pub decreases-loop-next : goal.decreases-loop-next
 decreases-loop-next l = length l.file - l.at

@@ -1,8 +1,8 @@
 -- `file_passes::read_boxes` meets its contract. The invariant: of the boxes of the file so many numbers are in the buffer, and the rest are those of
 -- what stands from `at` on, which has no fault. The measure: what is left of the file. Assumes nothing.
-use Prim.Native.Nat.{◌+◌, ◌-◌}
+use Prim.Native.Nat.{◌+◌, ◌-◌, ◌≤◌}
 use native.Mathlib.Omega.{arith}
-use lib.ListN.{drop, length-take}
+use lib.ListN.{length, drop, length-take}
 use Rattle.file_records.proofs.Writer.{part_put, edges_are}
 use Rattle.file_records.proofs.Records.{found, not_found, next_is}
 use Rattle.file_passes.proofs.Boxes.{boxes_start, room_for_box, boxes_box, boxes_note, boxes_stop, no_fault}
@@ -24,13 +24,19 @@ loop-next-smaller-in-Ok-Box c = omega (arith, next_is (found c.in-Ok-Box.ensures
 
 pub loop-next-preserved-in-Ok-Box : goal.loop-next-preserved-in-Ok-Box
 loop-next-preserved-in-Ok-Box c =
-    ((next_is (found c.in-Ok-Box.ensures c.in-Ok-Box.field-0-is)).1, boxes_box c.requires c.loop-next.invariant.1 (found c.in-Ok-Box.ensures c.in-Ok-Box.field-0-is) (part_put _ _ c.loop-next.boxes c.loop-next.edge 4 (omega (arith, room_for_box c.requires c.loop-next.invariant.1 (found c.in-Ok-Box.ensures c.in-Ok-Box.field-0-is))) (edges_are _ _) c.put_numbers.ensures))
+    let l = c.loop-next in
+    let box = found c.in-Ok-Box.ensures c.in-Ok-Box.field-0-is in
+    let room : l.edge + 4 ≤ length l.boxes = omega (arith, room_for_box c.requires l.invariant.1 box) in
+    let put = part_put _ _ l.boxes l.edge 4 room (edges_are _ _) c.put_numbers.ensures in
+    ((next_is box).1, boxes_box c.requires l.invariant.1 box put)
 
 pub loop-next-smaller : goal.loop-next-smaller
 loop-next-smaller c = omega (arith, next_is (found c.in-Ok-Note.ensures c.in-Ok-Note.field-0-is))
 
 pub loop-next-preserved : goal.loop-next-preserved
-loop-next-preserved c = ((next_is (found c.in-Ok-Note.ensures c.in-Ok-Note.field-0-is)).1, boxes_note c.requires c.loop-next.invariant.1 (found c.in-Ok-Note.ensures c.in-Ok-Note.field-0-is))
+loop-next-preserved c =
+    let note = found c.in-Ok-Note.ensures c.in-Ok-Note.field-0-is in
+    ((next_is note).1, boxes_note c.requires c.loop-next.invariant.1 note)
 
 pub returns-in-Ok-Plug : goal.returns-in-Ok-Plug
 returns-in-Ok-Plug c =

@@ -1,8 +1,8 @@
 -- `file_passes::read_plugs` meets its contract. The invariant: the first k of the plugs are in the buffer, and the rest are those of what stands from
 -- `at` on, which has no fault. The measure: what is left of the file. Assumes nothing.
-use Prim.Native.Nat.{◌+◌, ◌-◌, ◌*◌}
+use Prim.Native.Nat.{◌+◌, ◌-◌, ◌*◌, ◌≤◌}
 use native.Mathlib.Omega.{arith}
-use lib.ListN.{drop, length-take}
+use lib.ListN.{length, drop, length-take}
 use Rattle.file_records.proofs.Over.{wrote_length}
 use Rattle.file_records.proofs.Writer.{part_put, coordinates_are}
 use Rattle.file_records.proofs.Records.{found, not_found, next_is}
@@ -22,21 +22,27 @@ loop-k-smaller-in-Ok-Plug c = omega (arith, next_is (found c.in-Ok-Plug.ensures 
 
 pub loop-k-preserved-in-Ok-Plug : goal.loop-k-preserved-in-Ok-Plug
 loop-k-preserved-in-Ok-Plug c =
-    ((next_is (found c.in-Ok-Plug.ensures c.in-Ok-Plug.field-0-is)).1, omega (arith, c.loop-k-test.true), plugs_plug c.requires c.loop-k.invariant.2 c.loop-k-test.true (found c.in-Ok-Plug.ensures c.in-Ok-Plug.field-0-is) (part_put _ _ c.loop-k.plugs (c.loop-k.k * 2) 2 (omega (arith, c.requires.for_plugs, c.loop-k-test.true, wrote_length c.loop-k.invariant.2.wrote)) (coordinates_are _ _) c.put_numbers.ensures))
+    let l = c.loop-k in
+    let plug = found c.in-Ok-Plug.ensures c.in-Ok-Plug.field-0-is in
+    let room : l.k * 2 + 2 ≤ length l.plugs = omega (arith, c.requires.for_plugs, c.loop-k-test.true, wrote_length l.invariant.2.wrote) in
+    let put = part_put _ _ l.plugs (l.k * 2) 2 room (coordinates_are _ _) c.put_numbers.ensures in
+    ((next_is plug).1, omega (arith, c.loop-k-test.true), plugs_plug c.requires l.invariant.2 c.loop-k-test.true plug put)
 
 pub loop-k-smaller-in-Ok-Note : goal.loop-k-smaller-in-Ok-Note
 loop-k-smaller-in-Ok-Note c = omega (arith, next_is (found c.in-Ok-Note.ensures c.in-Ok-Note.field-0-is))
 
 pub loop-k-preserved-in-Ok-Note : goal.loop-k-preserved-in-Ok-Note
 loop-k-preserved-in-Ok-Note c =
-    ((next_is (found c.in-Ok-Note.ensures c.in-Ok-Note.field-0-is)).1, c.loop-k.invariant.1, plugs_note c.requires c.loop-k.invariant.2 (found c.in-Ok-Note.ensures c.in-Ok-Note.field-0-is))
+    let note = found c.in-Ok-Note.ensures c.in-Ok-Note.field-0-is in
+    ((next_is note).1, c.loop-k.invariant.1, plugs_note c.requires c.loop-k.invariant.2 note)
 
 pub loop-k-smaller : goal.loop-k-smaller
 loop-k-smaller c = omega (arith, next_is (found c.in-Ok-Box.ensures c.in-Ok-Box.field-0-is))
 
 pub loop-k-preserved : goal.loop-k-preserved
 loop-k-preserved c =
-    ((next_is (found c.in-Ok-Box.ensures c.in-Ok-Box.field-0-is)).1, c.loop-k.invariant.1, plugs_box c.requires c.loop-k.invariant.2 (found c.in-Ok-Box.ensures c.in-Ok-Box.field-0-is))
+    let box = found c.in-Ok-Box.ensures c.in-Ok-Box.field-0-is in
+    ((next_is box).1, c.loop-k.invariant.1, plugs_box c.requires c.loop-k.invariant.2 box)
 
 pub returns-in-Ok-End : goal.returns-in-Ok-End
 returns-in-Ok-End c =
