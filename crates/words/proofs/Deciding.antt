@@ -1,8 +1,9 @@
 -- From what each polygon of some boxes says of the plug to the plug's one word. Assumes nothing.
-use mathlib.Core.Bool.{true, false}
+use mathlib.Core.Bool.{Bool, true, false}
+use mathlib.Core.Path.{◌≡◌, refl}
 use mathlib.Core.Logic.{⊎_elim}
 use mathlib.Core.List.{List, map}
-use Prim.Native.Nat.{ℕ, ◌+◌, ◌≤◌}
+use Prim.Native.Nat.{ℕ, ◌≤◌}
 use native.Mathlib.Omega.{arith}
 use lib.ListN.{length, take, drop, length-drop}
 use lib.Seq.{length-take-le}
@@ -18,22 +19,26 @@ use Rattle.rounds.specs.declared.Corner.TheVariants.{SouthWest, SouthEast, North
 use Rattle.rounds.specs.declared.Word.TheVariants.{Inside, Outside, Undecided}
 use Rattle.rounds.proofs.Corners.{corner_pick, one_of_all, inside_by_corners, outside_by_corners}
 use Rattle.rounds.proofs.Total.{corners_second, exactly}
-use Rattle.locations.specs.Places.{PlaceOf}
+use Rattle.locations.specs.Places.{KeyPolygon, PlaceOf}
+use Rattle.locations.specs.declared.Place.{Place}
 use Rattle.locations.specs.declared.Place.TheVariants.{Within, OnLine, Off}
 use Rattle.outlines.specs.declared.RoundCounts.{RoundCounts}
 use Rattle.outlines.specs.RoundPolygons.{count_of, start_of, outer_vertices, corner_vertices, RoundPolygons}
-use Rattle.words.specs.Words.{RoundKeys, PartKeys, WithinOf, WordIn}
+use Rattle.words.specs.Words.{KeyVertices, RoundKeys, WithinOf, WordIn}
 
 -- ---- one polygon: strictly within it, or not
 
-pub yes_within : {ks : List ℕ} {k : ℕ} → PlaceOf ks k Within → WithinOf ks k true
-yes_within h = record { says = λ qs P. h.says qs P }
+pub not_within : {ks : List ℕ} {k : ℕ} (place : Place) → (place ≡ Within → ⊥) → PlaceOf ks k place → WithinOf ks k false
+not_within Within n h = absurd (n refl)
+not_within OnLine n h = record { says = λ qs P. (h.says qs P).0 }
+not_within Off n h = record { says = λ qs P. separated_supported _ (h.says qs P) }
 
-pub on_not_within : {ks : List ℕ} {k : ℕ} → PlaceOf ks k OnLine → WithinOf ks k false
-on_not_within h = record { says = λ qs P. (h.says qs P).0 }
+-- of the polygon's vertices, and for the answer that was tested
+pub within_of : {part ks : List ℕ} {k : ℕ} {r s : Bool} → part ≡ ks → r ≡ s → WithinOf part k r → WithinOf ks k s
+within_of e f h = rw (← e, ← f) h
 
-pub off_not_within : {ks : List ℕ} {k : ℕ} → PlaceOf ks k Off → WithinOf ks k false
-off_not_within h = record { says = λ qs P. separated_supported _ (h.says qs P) }
+pub placed : {part ks : List ℕ} {k : ℕ} {r s : Place} → part ≡ ks → r ≡ s → PlaceOf part k r → PlaceOf ks k s
+placed e f h = rw (← e, ← f) h
 
 -- strictly within is in the hull
 not_supported : (vs : List Point) → (Supported vs → ⊥) → Balanced vs
@@ -47,12 +52,12 @@ corners_supported c bs p h =
     record { a = h.a; b = h.b; nonzero = h.nonzero; behind = all_map (from 1 p) (one_of_all c bs (all_unmap (from 1 p) (all_corners bs) h.behind)) }
 
 -- of the polygons of some boxes, each has a vertex, and all vertices are keys
-pub round_keys : {bs : List Box} {ks : List ℕ} {n : RoundCounts} {k : ℕ} → RoundPolygons bs ks n → Key k → RoundKeys ks n k
-round_keys {bs} {ks} {n} p key =
+pub round_keys : {bs : List Box} {ks : List ℕ} {n : RoundCounts} → RoundPolygons bs ks n → RoundKeys ks n
+round_keys {bs} {ks} {n} p =
     record {
       enough = p.enough;
-      outer = record { some = taken n.outer ks p.outer.some (omega (arith, p.enough)); vertices = p.outer.keys; plug = key };
-      corners = λ c. record { some = taken (count_of n c) (drop (start_of n c) ks) (p.corners c).some (enough c); vertices = (p.corners c).keys; plug = key };
+      outer = record { some = taken n.outer ks p.outer.some (omega (arith, p.enough)); keys = p.outer.keys };
+      corners = λ c. record { some = taken (count_of n c) (drop (start_of n c) ks) (p.corners c).some (enough c); keys = (p.corners c).keys };
     }
   where
     taken : (m : ℕ) (l : List ℕ) → 1 ≤ m → m ≤ length l → 1 ≤ length (take m l)
@@ -64,15 +69,9 @@ round_keys {bs} {ks} {n} p key =
     enough NorthEast = simp length-drop (omega (arith, p.enough))
     enough NorthWest = simp length-drop (omega (arith, p.enough))
 
--- the vertices of each corner polygon stand in the slice
-pub part_keys : {ks : List ℕ} {n : RoundCounts} {k : ℕ} → RoundKeys ks n k → (c : Corner) → PartKeys ks (start_of n c) (count_of n c) k
-part_keys {ks} {n} h c = record { enough = go c; keys = h.corners c }
-  where
-    go : (c : Corner) → start_of n c + count_of n c ≤ length ks
-    go SouthWest = omega (arith, h.enough)
-    go SouthEast = omega (arith, h.enough)
-    go NorthEast = omega (arith, h.enough)
-    go NorthWest = omega (arith, h.enough)
+-- the part of the vertices that is a polygon's, and a plug's key
+pub part_keys : {part ks : List ℕ} {k : ℕ} → part ≡ ks → KeyVertices ks → Key k → KeyPolygon part k
+part_keys e v k = rw e (record { some = v.some; vertices = v.keys; plug = k })
 
 module _ (ks : List ℕ) (n : RoundCounts) (k : ℕ) where
   -- off the outer polygon

@@ -1,35 +1,34 @@
 -- The word of a plug against the five polygons of some boxes, which are given by their vertices' keys. Definitions only.
-use Rattle.std.specs.Prelude.{◌≡◌, Bool, true, false, List, map, ℕ, ◌+◌, ◌≤◌, length}
+use Rattle.std.specs.Prelude.{◌≡◌, Bool, true, false, List, map, ℕ, ◌≤◌, length}
 use Rattle.plane.specs.declared.Point.{Point}
 use Rattle.plane.specs.Members.{All}
 use Rattle.plane.specs.Vectors.{from, Supported}
 use Rattle.plane.specs.Polygons.{Polygon}
-use Rattle.turns.specs.Keys.{point_of}
+use Rattle.turns.specs.Keys.{Key, point_of}
 use Rattle.rounds.specs.Boxes.{Ordered}
 use Rattle.rounds.specs.Words.{word_of}
 use Rattle.rounds.specs.declared.Box.{Box}
 use Rattle.rounds.specs.declared.Corner.{Corner}
 use Rattle.rounds.specs.declared.Word.{Word}
-use Rattle.locations.specs.Places.{KeyPolygon}
 use Rattle.outlines.specs.declared.RoundCounts.{RoundCounts}
-use Rattle.outlines.specs.RoundPolygons.{all_counts, vertices_from, outer_vertices, corner_vertices, RoundPolygons}
+use Rattle.outlines.specs.RoundPolygons.{all_counts, outer_vertices, corner_vertices, RoundPolygons}
 
--- the slice has the five polygons' vertices, of each at least one; these and the plug are keys
-pub record RoundKeys (ks : List ℕ) (n : RoundCounts) (k : ℕ) : Type 0 where
+-- there is a vertex, and every vertex is a key
+pub record KeyVertices (ks : List ℕ) : Type 0 where
+  pub some : 1 ≤ length ks
+  pub keys : All Key ks
+
+-- the slice has the five polygons' vertices, of each at least one, and they are keys
+pub record RoundKeys (ks : List ℕ) (n : RoundCounts) : Type 0 where
   pub enough : all_counts n ≤ length ks
-  pub outer : KeyPolygon (outer_vertices n ks) k
-  pub corners : (c : Corner) → KeyPolygon (corner_vertices n c ks) k
+  pub outer : KeyVertices (outer_vertices n ks)
+  pub corners : (c : Corner) → KeyVertices (corner_vertices n c ks)
 
 -- it is the one word of the plug, for all ordered boxes whose polygons they are
 pub record WordIn (ks : List ℕ) (n : RoundCounts) (k : ℕ) (r : Word) : Type 0 where
   pub says : (bs : List Box) → All Ordered bs → RoundPolygons bs ks n → r ≡ word_of bs (point_of k)
 
 -- ---- one of the polygons
-
--- the slice has n vertices from the index i on; these and the plug are keys
-pub record PartKeys (ks : List ℕ) (i n k : ℕ) : Type 0 where
-  pub enough : i + n ≤ length ks
-  pub keys : KeyPolygon (vertices_from i n ks) k
 
 -- the plug p is strictly inside the hull of the points qs, or not
 abbrev pub WithinSays : List Point → Point → Bool → Type 0

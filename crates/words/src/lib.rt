@@ -1,59 +1,89 @@
 // The word of a plug against the five polygons of a round, which are made once for many plugs.
 #![tactic(auto)]
 
-ghost use Rattle.locations.specs.Places.{PlaceOf};
-ghost use Rattle.outlines.specs.RoundPolygons.{vertices_from, outer_vertices};
-ghost use Rattle.words.specs.Words.{PartKeys, RoundKeys, WithinOf, WordIn};
+ghost use Rattle.std.specs.Prelude.{◌≡◌};
+ghost use Rattle.std.proofs.Props.{props};
+ghost use Rattle.plane.specs.Props.{All-prop};
+ghost use Rattle.turns.specs.Keys.{Key};
+ghost use Rattle.locations.specs.Places.{KeyPolygon, PlaceOf};
+ghost use Rattle.outlines.specs.RoundPolygons.{outer_vertices, corner_vertices};
+ghost use Rattle.words.specs.Words.{RoundKeys, WithinOf, WordIn};
 
 use locations::Place;
 use outlines::RoundCounts;
-use rounds::Word;
+use rounds::{Corner, Word};
 
-// Whether the plug is strictly within the polygon of the `count` vertices from `start` on.
-fn is_within(vertices: &[u32], start: usize, count: usize, plug: u32) -> bool
-    requires { PartKeys vertices.now start count plug }
-    ensures { WithinOf (vertices_from start count vertices.now) plug result }
-{
-    match locations::place_of(&vertices[start..start + count], plug) {
-        Place::Within => true,
-        Place::OnLine => false,
-        Place::Off => false,
+// The five polygons of a round: their vertices one polygon behind another, and how many each has.
+#[derive(Clone, Copy)]
+pub struct Polygons<'a> {
+    pub vertices: &'a [u32],
+    pub counts: RoundCounts,
+    ghost keys: { RoundKeys vertices.now counts } by { Prim.hlevel (props, All-prop) },
+}
+
+impl<'a> Polygons<'a> {
+    // The vertices of the outer polygon.
+    pub fn outer(self) -> &'a [u32]
+        ensures { result.now ≡ outer_vertices self.entry.counts self.entry.vertices.now }
+    {
+        &self.vertices[..self.counts.outer]
+    }
+
+    // The vertices of a corner polygon.
+    pub fn of_corner(self, corner: Corner) -> &'a [u32]
+        ensures { result.now ≡ corner_vertices self.entry.counts corner self.entry.vertices.now }
+    {
+        let counts = self.counts;
+        let southwest = counts.outer;
+        let southeast = southwest + counts.southwest;
+        let northeast = southeast + counts.southeast;
+        let northwest = northeast + counts.northeast;
+        match corner {
+            Corner::SouthWest => &self.vertices[southwest..southeast],
+            Corner::SouthEast => &self.vertices[southeast..northeast],
+            Corner::NorthEast => &self.vertices[northeast..northwest],
+            Corner::NorthWest => &self.vertices[northwest..northwest + counts.northwest],
+        }
     }
 }
 
-// The word of a plug that is strictly within the outer polygon: inside, if it is strictly within each corner polygon.
-fn word_by_corners(vertices: &[u32], counts: RoundCounts, plug: u32) -> Word
-    requires round_keys { RoundKeys vertices.now counts plug }
-    requires place_of { PlaceOf (outer_vertices counts vertices.now) plug Place.Within }
-    ensures { WordIn vertices.now counts plug result }
+// Whether the plug is strictly within the polygon of the vertices.
+fn is_within(vertices: &[u32], plug: u32) -> bool
+    requires { KeyPolygon vertices.now plug }
+    ensures { WithinOf vertices.now plug result }
 {
-    let southwest = counts.outer;
-    if !is_within(vertices, southwest, counts.southwest, plug) {
+    matches!(locations::place_of(vertices, plug), Place::Within)
+}
+
+// The word of a plug that is strictly within the outer polygon: inside, if it is strictly within each corner polygon.
+fn word_by_corners(polygons: Polygons, plug: u32) -> Word
+    requires key { Key plug }
+    requires place_of { PlaceOf (outer_vertices polygons.counts polygons.vertices.now) plug Place.Within }
+    ensures { WordIn polygons.entry.vertices.now polygons.entry.counts plug result }
+{
+    if !is_within(polygons.of_corner(Corner::SouthWest), plug) {
         return Word::Undecided;
     }
-    let southeast = southwest + counts.southwest;
-    if !is_within(vertices, southeast, counts.southeast, plug) {
+    if !is_within(polygons.of_corner(Corner::SouthEast), plug) {
         return Word::Undecided;
     }
-    let northeast = southeast + counts.southeast;
-    if !is_within(vertices, northeast, counts.northeast, plug) {
+    if !is_within(polygons.of_corner(Corner::NorthEast), plug) {
         return Word::Undecided;
     }
-    let northwest = northeast + counts.northeast;
-    if !is_within(vertices, northwest, counts.northwest, plug) {
+    if !is_within(polygons.of_corner(Corner::NorthWest), plug) {
         return Word::Undecided;
     }
     Word::Inside
 }
 
 // The word of a plug against the outer polygon and the four corner polygons of some boxes.
-pub fn word_in(vertices: &[u32], counts: RoundCounts, plug: u32) -> Word
-    requires { RoundKeys vertices.now counts plug }
-    ensures { WordIn vertices.now counts plug result }
+pub fn word_in(polygons: Polygons, plug: u32) -> Word
+    requires { Key plug }
+    ensures { WordIn polygons.entry.vertices.now polygons.entry.counts plug result }
 {
-    match locations::place_of(&vertices[..counts.outer], plug) {
+    match locations::place_of(polygons.outer(), plug) {
         Place::Off => Word::Outside,
         Place::OnLine => Word::Undecided,
-        Place::Within => word_by_corners(vertices, counts, plug),
+        Place::Within => word_by_corners(polygons, plug),
     }
 }
