@@ -1,1 +1,2 @@
 pub mod Plugs
+pub mod Shapes

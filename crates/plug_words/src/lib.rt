@@ -2,53 +2,47 @@
 // inside.
 #![tactic(auto)]
 
-ghost use Rattle.std.specs.Prelude.{◌≡◌, true};
-ghost use Rattle.plane.specs.Points.{point};
+ghost use Rattle.std.specs.Prelude.{◌≡◌, true, IfSome};
+ghost use Rattle.std.proofs.Props.{props};
+ghost use mathlib.Core.Sum.{⊎_set};
 ghost use Rattle.rounds.specs.Picks.{InBox};
-ghost use Rattle.plug_words.specs.Plugs.{AnyPlug, WordBy, Shaped};
+ghost use Rattle.plug_words.specs.Plugs.{WordBy, Sure};
 
-use outlines::RoundCounts;
-use rounds::{Box, Checked, Word};
-use verdicts::WordReply;
+use plane::Point;
+use rounds::{Box, Refusal, Word};
+use words::Polygons;
 
-// What the plugs of a round are judged by, beside the vertices: how many vertices each polygon has, and a box in which
-// every plug is inside. It holds no point where west is over east.
+// What the plugs of a round are judged by: its polygons, and a box in which every plug is inside, where one is known.
 #[derive(Clone, Copy)]
-pub struct RoundShapes {
-    pub counts: RoundCounts,
-    pub sure: Box,
+pub struct RoundShapes<'a> {
+    pub polygons: Polygons<'a>,
+    pub sure: Option<Box>,
+    ghost inside: { IfSome sure (λ b. Sure polygons.vertices.now polygons.counts b) } by { Prim.hlevel (props, ⊎_set) },
 }
 
 // The word of a plug against the polygons of a round, or its refusal.
-pub fn word_by(vertices: &[u32], counts: RoundCounts, east: i32, north: i32) -> WordReply
-    requires { AnyPlug vertices.now counts }
-    ensures { WordBy vertices.now counts (point east north) result }
+pub fn word_by(polygons: Polygons, plug: Point) -> Result<Word, Refusal>
+    ensures { WordBy polygons.entry.vertices.now polygons.entry.counts plug result }
 {
-    let checked = checks::check_plug(east, north, 1);
-    if let Checked::Refused(refusal) = checked {
-        return WordReply::Refused(refusal);
-    }
-    let plug = turns::key_of(east, north);
-    let word = words::word_in(vertices, counts, plug);
-    WordReply::Given(word)
+    checks::check_plug(plug, 1)?;
+    Ok(words::word_in(polygons, turns::key_of(plug)))
 }
 
 // Whether a box holds a point, its edges included: one test of all four edges, since no single one can be foretold.
-fn holds(b: Box, east: i32, north: i32) -> bool
-    ensures { result ≡ true → InBox 1 b (point east north) }
+fn holds(b: Box, plug: Point) -> bool
+    ensures { result ≡ true → InBox 1 b plug }
 {
-    let across = (b.west <= east) & (east <= b.east);
-    let upward = (b.south <= north) & (north <= b.north);
+    let across = (b.west <= plug.east) & (plug.east <= b.east);
+    let upward = (b.south <= plug.north) & (plug.north <= b.north);
     across & upward
 }
 
 // The word of a plug, or its refusal: at once in the sure box, elsewhere by the polygons.
-pub fn word_of(vertices: &[u32], shapes: RoundShapes, east: i32, north: i32) -> WordReply
-    requires { Shaped vertices.now shapes }
-    ensures { WordBy vertices.now shapes.counts (point east north) result }
+pub fn word_of(shapes: RoundShapes, plug: Point) -> Result<Word, Refusal>
+    ensures { WordBy shapes.entry.polygons.vertices.now shapes.entry.polygons.counts plug result }
 {
-    if holds(shapes.sure, east, north) {
-        return WordReply::Given(Word::Inside);
+    match shapes.sure {
+        Some(sure) if holds(sure, plug) => Ok(Word::Inside),
+        _ => word_by(shapes.polygons, plug),
     }
-    word_by(vertices, shapes.counts, east, north)
 }
