@@ -20,7 +20,7 @@ use Rattle.plane.specs.Members.{All}
 use Rattle.plane.specs.Vectors.{from, along, Supported}
 use Rattle.plane.proofs.Lists.{all_imp, all_map, all_unmap}
 use Rattle.plane.proofs.Twins.{pt, fromᴱ, alongᴱ}
-use Rattle.rounds.specs.Boxes.{Ordered, box, corner_of, corners_of}
+use Rattle.rounds.specs.Boxes.{Ordered, corner_of, corners_of}
 use Rattle.rounds.specs.Picks.{InBox}
 use Rattle.rounds.specs.Refusals.{Fault, none, fault, when, beyond, plug_fault}
 use Rattle.rounds.specs.Replies.{result, reply_under}
@@ -34,7 +34,7 @@ use Rattle.rounds.specs.declared.Word.TheVariants.{Inside}
 use Rattle.rounds.proofs.Accepted.{plug_accepted}
 use Rattle.rounds.proofs.Corners.{highest, low, inside_by_corners, inside_iff}
 use Rattle.rounds.proofs.Total.{exactly}
-use Rattle.verdicts.specs.declared.WordReply.TheVariants.{Given}
+use Rattle.std.specs.Prelude.{Ok}
 use Rattle.outlines.specs.RoundPolygons.{RoundPolygons}
 use Rattle.outlines.specs.declared.RoundCounts.{RoundCounts}
 use Rattle.plug_words.specs.Plugs.{WordBy, Sure}
@@ -98,7 +98,7 @@ given none v w e = (refl, cc)
 given (fault cause place) v w e = absurd (let z : ◌≡◌ {A = ℕ} 0 1 = cc in omega arith)
 
 -- inside at the four corners of a box
-module _ {vertices : List ℕ} {counts : RoundCounts} {x : Box} (h : (c : Corner) → WordBy vertices counts (corner_of c x) (Given Inside)) {bs : List Box} (os : All Ordered bs)
+module _ {vertices : List ℕ} {counts : RoundCounts} {x : Box} (h : (c : Corner) → WordBy vertices counts (corner_of c x) (Ok Inside)) {bs : List Box} (os : All Ordered bs)
     (f : RoundPolygons bs vertices counts) where
   at : (c : Corner) → (plug_fault 1 (corner_of c x) ≡ none) × (Inside ≡ word_of bs (corner_of c x))
   at c = given _ _ _ ((h c).says bs os f)
@@ -114,10 +114,5 @@ module _ {vertices : List ℕ} {counts : RoundCounts} {x : Box} (h : (c : Corner
   no_fault p w = plug_in_span 1 p (between_corners x p w (plug_accepted 1 _ (at SouthWest).0) (plug_accepted 1 _ (at NorthEast).0))
 
 -- so is every plug in it
-pub sure : (vertices : List ℕ) (counts : RoundCounts) (x : Box) → ((c : Corner) → WordBy vertices counts (corner_of c x) (Given Inside)) → Sure vertices counts x
+pub sure : (vertices : List ℕ) (counts : RoundCounts) (x : Box) → ((c : Corner) → WordBy vertices counts (corner_of c x) (Ok Inside)) → Sure vertices counts x
 sure vertices counts x h = record { says = λ p w. record { says = λ bs os f. ap result (word_inside h os f p w) ∙ sym (ap (λ g. reply_under g (word_of bs p)) (no_fault h os f p w)) } }
-
--- a box that holds no point
-pub sure_none : (vertices : List ℕ) (counts : RoundCounts) → Sure vertices counts (box (pos 1) (pos 1) (pos 0) (pos 0))
-sure_none vertices counts =
-    record { says = λ p w. absurd (lin 0 1 (λ z. # 1 ⊗ # 1 ≼ z ⟹ z ≼ # 1 ⊗ # 0 ⟹ bot) (omega arith) p.east w.from_west w.to_east) }

@@ -1,24 +1,19 @@
--- `sure_boxes::find_sure_box` meets its contract: a plug at each corner of the box is inside (proofs/Sureness.antt). Assumes nothing.
+-- `sure_boxes::find_sure_box` meets its contract. The invariant: a plug at each corner that was tried is inside. Assumes nothing.
+use Rattle.std.proofs.Common.{Ok, arith, subst}
 use Rattle.rounds.specs.Boxes.{corner_of}
+use Rattle.rounds.specs.declared.Corner.{Corner}
 use Rattle.rounds.specs.declared.Word.TheVariants.{Inside}
-use Rattle.verdicts.specs.declared.WordReply.TheVariants.{Given}
+use Rattle.plane.specs.declared.Point.{Point}
 use Rattle.plug_words.specs.Plugs.{WordBy}
-use Rattle.rounds.proofs.Corners.{by_corner}
+use Rattle.words.proofs.Tried.{place_few, one_more}
 use Rattle.sure_boxes.proofs.Sureness.{sure}
-use Rattle.sure_boxes.proofs.Metres.{read_back}
-use Rattle.integers.proofs.Tests.{ok}
 use Rattle.sure_boxes.proofs.find_sure_box.Goals as goal
 
+pub loop-corner-preserved : goal.loop-corner-preserved
+loop-corner-preserved c =
+    let At : Point → Type 0 = λ p. WordBy c.args.polygons.vertices.now c.args.polygons.counts p (Ok Inside) in
+    let Tried : Corner → Type 0 = λ k. At (corner_of k c.between-b.result) in
+    one_more Tried c.loop-corner.corner-index (subst At c.corner.ensures (c.is_inside.ensures c.if-not-is_inside.false)) c.loop-corner.invariant
+
 pub returns : goal.returns
-returns c =
-    let b = c.between-b.result in
-    let given = c.struct_told-8-1.given in
-    let west = ok b.west given.0.1 in
-    let south = ok b.south given.1.0.1 in
-    let east = ok b.east given.1.1.0.1 in
-    let north = ok b.north given.1.1.1.0.1 in
-    sure _ _ b (by_corner (λ k. WordBy _ _ (corner_of k b) (Given Inside))
-    (read_back west south (c.is_inside.ensures c.if-not-is_inside.false))
-    (read_back east south (c.is_inside-2.ensures c.if-not-is_inside-2.false))
-    (read_back east north (c.is_inside-3.ensures c.if-not-is_inside-3.false))
-    (read_back west north (c.is_inside-4.ensures c.if-not-is_inside-4.false)))
+returns c = sure _ _ c.between-b.result (λ k. c.loop-corner.invariant k (omega (arith, place_few k, c.loop-corner-test.false)))
