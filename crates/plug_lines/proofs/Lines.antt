@@ -6,19 +6,19 @@ use native.Mathlib.Nat.{add-zero}
 use native.Mathlib.Omega.{arith}
 use lib.IntN.{ℤ, pos}
 use lib.ListN.{length, take, drop, length-append, length-drop}
+use Rattle.std.specs.Prelude.{Result}
 use Rattle.integers.proofs.Parts.{drop_two, tail_is}
 use Rattle.plane.specs.declared.Point.{Point}
 use Rattle.plane.specs.Members.{All}
 use Rattle.rounds.specs.Boxes.{Ordered, plugs_of}
 use Rattle.rounds.specs.declared.Box.{Box}
-use Rattle.rounds.specs.Replies.{Reply, result, refused}
+use Rattle.rounds.specs.Replies.{Reply, result, refused, reply_of}
 use Rattle.rounds.specs.declared.Word.{Word}
 use Rattle.rounds.specs.declared.Word.TheVariants.{Inside, Outside, Undecided}
 use Rattle.rounds.specs.Boxes.{plug_at}
 use Rattle.outlines.specs.RoundPolygons.{RoundPolygons}
 use Rattle.outlines.specs.declared.RoundCounts.{RoundCounts}
-use Rattle.verdicts.specs.Verdicts.{word_reply}
-use Rattle.verdicts.specs.declared.WordReply.{WordReply}
+use Rattle.rounds.specs.declared.Refusal.{Refusal}
 use Rattle.texts.specs.Decimals.{decimal}
 use Rattle.texts.specs.Text.{after_number, plug_reply, plug_line, plug_lines, Wrote}
 use Rattle.plug_lines.specs.Steps.{most_after_number, most_plug_line, most_plugs, RoomBehind}
@@ -82,18 +82,18 @@ module _ (vertices : List ℕ) (counts : RoundCounts) (before : ℕ) (plugs : Li
       sofar_part = omega (arith, few_digits 3 (before + k + 1) (omega (arith, room.numbers)), ap length (tail_is done out), length-drop done out, sofar_room)
 
       -- a line more
-      pub sofar_more : {reply : WordReply} {n : ℕ} {new : List ℕ} → WordBy vertices counts (plug_at plugs (k * 2)) reply
-          → Wrote (plug_line (before + k + 1) (word_reply reply)) (take (length out - done) (drop done out)) n new
+      pub sofar_more : {reply : Result Word Refusal} {n : ℕ} {new : List ℕ} → WordBy vertices counts (plug_at plugs (k * 2)) reply
+          → Wrote (plug_line (before + k + 1) (reply_of reply)) (take (length out - done) (drop done out)) n new
           → Sofar vertices counts before plugs entry (k + 1) (done + n) (take done out ++ (new ++ drop (length out - done) (drop done out)))
       unfolding plug_lines
       sofar_more {reply} {n} {new} w g =
           record {
             within = omega arith;
-            written = i.written ++ plug_line (before + k + 1) (word_reply reply);
+            written = i.written ++ plug_line (before + k + 1) (reply_of reply);
             wrote = then_wrote i.wrote (omega (arith, i.wrote.counted, i.few, room.lines)) g;
-            few = omega (arith, i.few, g.counted, few_bytes (before + k + 1) (word_reply reply) (omega (arith, room.numbers)));
+            few = omega (arith, i.few, g.counted, few_bytes (before + k + 1) (reply_of reply) (omega (arith, room.numbers)));
             rest = λ bs os f.
-                append_assoc i.written (plug_line (before + k + 1) (word_reply reply)) (plug_lines (before + (k + 1) + 1) bs (plugs_of (drop ((k + 1) * 2) plugs)))
+                append_assoc i.written (plug_line (before + k + 1) (reply_of reply)) (plug_lines (before + (k + 1) + 1) bs (plugs_of (drop ((k + 1) * 2) plugs)))
                 ∙ ap (λ t. i.written ++ t)
                 (ap (λ r. plug_line (before + k + 1) r ++ plug_lines (before + (k + 1) + 1) bs (plugs_of (drop ((k + 1) * 2) plugs))) (w.says bs os f)
                 ∙ sym (next bs))

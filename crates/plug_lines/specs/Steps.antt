@@ -1,13 +1,14 @@
 -- What the steps of the plugs' lines ask and leave. Definitions only.
-use Rattle.std.specs.Prelude.{ℕ, ◌+◌, ◌*◌, ◌/◌, ◌≤◌, List, ℤ, length}
+use Rattle.std.specs.Prelude.{Result, ℕ, ◌+◌, ◌*◌, ◌/◌, ◌≤◌, List, ℤ, length}
 use Rattle.plane.specs.declared.Point.{Point}
 use Rattle.plane.specs.Members.{All}
 use Rattle.rounds.specs.Boxes.{Ordered, plugs_of}
+use Rattle.rounds.specs.Replies.{reply_of}
 use Rattle.rounds.specs.declared.Box.{Box}
 use Rattle.outlines.specs.RoundPolygons.{RoundPolygons}
 use Rattle.outlines.specs.declared.RoundCounts.{RoundCounts}
-use Rattle.verdicts.specs.Verdicts.{word_reply}
-use Rattle.verdicts.specs.declared.WordReply.{WordReply}
+use Rattle.rounds.specs.declared.Refusal.{Refusal}
+use Rattle.rounds.specs.declared.Word.{Word}
 use Rattle.texts.specs.Text.{plug_line, plug_lines, Wrote}
 use Rattle.plug_words.specs.Plugs.{WordBy}
 
@@ -39,9 +40,9 @@ pub record RoomBehind (before : ℕ) (plugs : List ℤ) (out : List ℕ) : Type 
 
 -- the line of a plug was written, with that word or refusal
 pub record LineBy (vertices : List ℕ) (counts : RoundCounts) (number : ℕ) (plug : Point) (entry : List ℕ) (count : ℕ) (exit : List ℕ) : Type 0 where
-  pub reply : WordReply
+  pub reply : Result Word Refusal
   pub word : WordBy vertices counts plug reply
-  pub wrote : Wrote (plug_line number (word_reply reply)) entry count exit
+  pub wrote : Wrote (plug_line number (reply_of reply)) entry count exit
 
 -- the lines of a plug list, behind so many plugs, were written, for all ordered boxes whose polygons they are
 pub record LinesBehind (vertices : List ℕ) (counts : RoundCounts) (before : ℕ) (plugs : List ℤ) (entry : List ℕ) (count : ℕ) (exit : List ℕ) : Type 0 where

@@ -4,20 +4,20 @@
 #![tactic(auto)]
 
 ghost use Rattle.std.specs.Prelude.{◌+◌, ◌*◌, ◌/◌, ◌≤◌, length};
-ghost use Rattle.plane.specs.Points.{point};
-ghost use Rattle.rounds.specs.Boxes.{BoxList, boxes_of, plugs_of};
-ghost use Rattle.rounds.specs.Replies.{result as replied};
+ghost use Rattle.rounds.specs.Boxes.{boxes_of, plugs_of};
+ghost use Rattle.rounds.specs.Replies.{result as replied, reply_of};
 ghost use Rattle.outlines.specs.RoundPolygons.{RoundPolygons};
-ghost use Rattle.plug_words.specs.Plugs.{Shaped, ShapesOf};
-ghost use Rattle.verdicts.specs.Verdicts.{word_reply};
+ghost use Rattle.plug_words.specs.Shapes.{ShapesOf};
 ghost use Rattle.texts.specs.Decimals.{decimal};
 ghost use Rattle.texts.specs.Text.{after_number, plug_lines, Wrote};
 ghost use Rattle.plug_lines.specs.Steps.{most_after_number, LineRoom, RoomBehind, LineBy, LinesBehind};
 
-use outlines::{MOST_KEYS, RoundCounts};
+use boxes::Boxes;
+use outlines::MOST_KEYS;
+use plane::Point;
 use plug_words::RoundShapes;
-use rounds::Word;
-use verdicts::WordReply;
+use rounds::{Refusal, Word};
+use words::Polygons;
 
 // The most vertices of the five polygons of a round.
 pub const MOST_VERTICES: usize = 8192;
@@ -35,92 +35,75 @@ fn write_word(word: Word, out: &mut [u8]) -> usize
 }
 
 // Writes what stands after a plug's number.
-fn write_reply(reply: WordReply, out: &mut [u8]) -> usize
+fn write_reply(reply: Result<Word, Refusal>, out: &mut [u8]) -> usize
     requires { most_after_number ≤ length out.old }
-    ensures { Wrote (after_number (word_reply reply)) out.old result out.new }
+    ensures { Wrote (after_number (reply_of reply)) out.old result out.new }
 {
     match reply {
-        WordReply::Given(word) => write_word(word, out),
-        WordReply::Refused(_) => texts::write_bytes(b" refused 6\n", out),
+        Ok(word) => write_word(word, out),
+        Err(_) => texts::write_bytes(b" refused 6\n", out),
     }
 }
 
 // Writes the line of a plug, against the polygons of a round.
-fn write_plug_line(
-    vertices: &[u32],
-    polygons: RoundShapes,
-    number: usize,
-    east: i32,
-    north: i32,
-    out: &mut [u8],
-) -> usize
-    requires { Shaped vertices.now polygons × (length (decimal number) + most_after_number ≤ length out.old) }
-    ensures { LineBy vertices.now polygons.counts number (point east north)
+fn write_plug_line(shapes: RoundShapes, number: usize, plug: Point, out: &mut [u8]) -> usize
+    requires { length (decimal number) + most_after_number ≤ length out.old }
+    ensures { LineBy shapes.entry.polygons.vertices.now shapes.entry.polygons.counts number plug
         out.old result out.new }
 {
     let n = texts::write_decimal(number, out);
-    let reply = plug_words::word_of(vertices, polygons, east, north);
-    n + write_reply(reply, &mut out[n..])
+    n + write_reply(plug_words::word_of(shapes, plug), &mut out[n..])
 }
 
 // Writes the line of each plug, against the polygons of a round; so many plugs of the round stand before these.
-pub fn write_lines(
-    vertices: &[u32],
-    polygons: RoundShapes,
-    before: usize,
-    plugs: &[i32],
-    out: &mut [u8],
-) -> usize
-    requires { Shaped vertices.now polygons × RoomBehind before plugs.now out.old }
-    ensures { LinesBehind vertices.now polygons.counts before plugs.now
+pub fn write_lines(shapes: RoundShapes, before: usize, plugs: &[i32], out: &mut [u8]) -> usize
+    requires { RoomBehind before plugs.now out.old }
+    ensures { LinesBehind shapes.entry.polygons.vertices.now shapes.entry.polygons.counts before plugs.now
         out.old result out.new }
 {
-    let count = plugs.len() / 2;
     let mut done: usize = 0;
-    let mut k: usize = 0;
-    while k < count {
-        let at = k * 2;
+    for k in 0..plugs.len() / 2 {
         done += write_plug_line(
-            vertices,
-            polygons,
+            shapes,
             before + k + 1,
-            plugs[at],
-            plugs[at + 1],
+            boxes::plug_at(plugs, k),
             &mut out[done..],
         );
-        k += 1;
     }
     done
 }
 
 // The polygons of accepted boxes, made once for all plugs, at the front of vertices.
-fn make_polygons(boxes: &[i32], vertices: &mut [u32]) -> RoundCounts
-    requires { BoxList boxes.now × (8 * (length boxes.now / 4) ≤ length vertices.old) }
-    ensures { RoundPolygons (boxes_of boxes.now) vertices.new result }
+fn make_polygons<'a>(boxes: Boxes, vertices: &'a mut [u32]) -> Polygons<'a>
+    requires { 8 * (length boxes.numbers.now / 4) ≤ length vertices.old }
+    ensures { RoundPolygons (boxes_of boxes.entry.numbers.now) result.vertices.now result.counts }
 {
     let mut keys = [0u32; MOST_KEYS];
     let mut mirror = [0u32; MOST_KEYS];
-    outlines::round_outlines(boxes, vertices, &mut keys, &mut mirror)
+    let counts = outlines::round_outlines(boxes, vertices, &mut keys, &mut mirror);
+    Polygons { vertices, counts }
 }
 
 // The polygons of accepted boxes, made once for so many plugs, with a box in which every plug is inside.
-pub fn make_shapes(boxes: &[i32], plugs: usize, vertices: &mut [u32]) -> RoundShapes
-    requires { BoxList boxes.now × (8 * (length boxes.now / 4) ≤ length vertices.old) }
-    ensures { ShapesOf (boxes_of boxes.now) vertices.new result }
+pub fn make_shapes<'a>(boxes: Boxes, plugs: usize, vertices: &'a mut [u32]) -> RoundShapes<'a>
+    requires { 8 * (length boxes.numbers.now / 4) ≤ length vertices.old }
+    ensures { ShapesOf (boxes_of boxes.entry.numbers.now) result }
 {
-    let counts = make_polygons(boxes, vertices);
-    let sure = sure_boxes::sure_box(vertices, counts, plugs);
-    RoundShapes { counts, sure }
+    let polygons = make_polygons(boxes, vertices);
+    RoundShapes {
+        polygons,
+        sure: sure_boxes::sure_box(polygons, plugs),
+    }
 }
 
 // Writes the line of each plug. The polygons of the boxes are made once.
-pub fn write_plug_lines(boxes: &[i32], plugs: &[i32], out: &mut [u8]) -> usize
-    requires { BoxList boxes.now × LineRoom 0 plugs.now out.old }
+pub fn write_plug_lines(boxes: Boxes, plugs: &[i32], out: &mut [u8]) -> usize
+    requires { LineRoom 0 plugs.now out.old }
     ensures { Wrote
-        (plug_lines 1 (boxes_of boxes.now) (plugs_of plugs.now))
+        (plug_lines 1 (boxes_of boxes.entry.numbers.now) (plugs_of plugs.now))
         out.old result out.new }
 {
     let mut vertices = [0u32; MOST_VERTICES];
-    let polygons = make_shapes(boxes, plugs.len() / 2, &mut vertices);
-    write_lines(&vertices, polygons, 0, plugs, out)
+    let shapes = make_shapes(boxes, plugs.len() / 2, &mut vertices);
+    write_lines(shapes, 0, plugs, out)
 }
