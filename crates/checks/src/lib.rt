@@ -58,9 +58,9 @@ pub fn check_area(numbers: &[i32], given: usize) -> Result<Boxes<'_>, Refusal>
     ensures fault { fault_of result ≡ area_fault numbers.now given }
     ensures same { IfOk result (λ boxes. boxes.numbers.now ≡ numbers.now) }
 {
-    let boxes = box_checks::check_boxes(numbers)?;
+    let listed = box_checks::check_boxes(numbers)?;
     check_buffer(numbers.len() / 4 * 8, given)?;
-    Ok(boxes)
+    Ok(listed)
 }
 
 // Checks what a verdict is asked on, and gives the boxes as accepted: the boxes, then the plug with place 1.
