@@ -65,7 +65,8 @@ module _ (p : Point) where
         };
       }
     where
-      strict : (q : Point) → (signed_area p (corner_point a) q ≡ pos 0) × (pos 0 ≤ℤ dot_product p (corner_point a) q) → (q ≡ p → ⊥) → pos 0 <ℤ dot_product p (corner_point a) (corner_point a) → pos 0 <ℤ dot_product p (corner_point a) q
+      strict : (q : Point) → (signed_area p (corner_point a) q ≡ pos 0) × (pos 0 ≤ℤ dot_product p (corner_point a) q) → (q ≡ p → ⊥)
+          → pos 0 <ℤ dot_product p (corner_point a) (corner_point a) → pos 0 <ℤ dot_product p (corner_point a) q
       strict q l ne h = not-≤ (λ z. ray_strict p (corner_point a) q l.0 (≤-antisym z l.1) h (apart_length p q (λ e. ne (sym e))))
 
   -- every point is strictly in front of the side from a to b, turned to the plug

@@ -75,11 +75,8 @@ fn balance_by_cone(cone: Cone, plug: u32) -> Option<Entries>
     ensures balances { BalanceByCone (point_of plug) cone result }
 {
     match cone {
-        Cone::Nothing => None,
-        Cone::Ray(_) => None,
-        Cone::Line(a, b) => balance_between(a, b, plug),
-        Cone::Wedge(_, _) => None,
-        Cone::Half(a, b) => balance_between(a, b, plug),
+        Cone::Nothing | Cone::Ray(_) | Cone::Wedge(..) => None,
+        Cone::Line(a, b) | Cone::Half(a, b) => balance_between(a, b, plug),
         Cone::Around(a, b, c) => balance_in_triangle(a, b, c, plug),
     }
 }
@@ -107,8 +104,7 @@ pub fn balance_of(boxes: Boxes, plug: u32, view: View) -> Option<Entries>
     ensures exact { result ≡ balance_of plug (boxes_of boxes.entry.numbers.now) view }
     ensures balances { BalanceSays (boxes_of boxes.entry.numbers.now) (point_of plug) result }
 {
-    let sw = balance_by(view, plug);
-    if let Some(entries) = sw {
+    if let Some(entries) = balance_by(view, plug) {
         return Some(entries);
     }
     let all = views::look_over(boxes, CornerSet::Four, plug, view);

@@ -8,11 +8,11 @@ use native.Mathlib.Omega.{arith}
 use borrow.Author.Tests.{eqb-true, eqb-false}
 use lib.Dec.{eqb}
 use lib.ListN.{length, take, drop, take-append-drop, drop_of_length-le}
-use lib.Seq.{take-suc, take_all, drop-cons}
+use lib.Seq.{take_all, drop-cons}
 use Rattle.plane.specs.declared.Point.{Point}
-use Rattle.plane.specs.Members.{All, none, ◌&◌}
+use Rattle.plane.specs.Members.{All, none}
 use Rattle.plane.specs.Vectors.{from, Supported}
-use Rattle.plane.proofs.Lists.{all_append, index_of_all}
+use Rattle.plane.proofs.Lists.{index_of_all}
 use Rattle.turns.specs.Keys.{KeyOf, point_of}
 use Rattle.turns.proofs.Coordinates.{key_at_lem}
 use Rattle.turns.proofs.Order.{point_injective}
@@ -25,24 +25,19 @@ use Rattle.cones.specs.Wider.{numbered, Keyed, is_around}
 use Rattle.cones.specs.declared.CornerKey.{CornerKey}
 use Rattle.cones.specs.declared.Cone.{Cone}
 use Rattle.cones.specs.declared.Cone.TheVariants.{Nothing, Ray, Line, Wedge, Half, Around}
-use Rattle.cones.proofs.Widening.{supported_fewer, around_more}
+use Rattle.cones.proofs.Widening.{around_more}
 use Rattle.cones.proofs.Wider.{with_says, says_keyed}
-use Rattle.passes.specs.Passes.{MetSays, Says, nth_box, names_in, corners_in, corners_by}
+use Rattle.passes.specs.Passes.{MetSays, Says, nth_box, names_in, corners_by}
 use Rattle.passes.specs.Keeping.{keys_in}
 use Rattle.passes.specs.declared.CornerSet.{CornerSet}
 use Rattle.passes.specs.declared.CornerSet.TheVariants.{One}
-use Rattle.passes.proofs.Passing.{corner_of_nth}
+use Rattle.passes.proofs.Passing.{met_more, corner_of_nth, corners_append, one_more}
 use Rattle.views.specs.Views.{MetOn, ViewSays, CornerViewSays, LooksAt, LooksOver}
 use Rattle.views.specs.Looking.{met_with, view_with, view_with_all, looked_over, nothing_seen, view_of}
 use Rattle.views.specs.declared.View.{View}
 use Rattle.views.proofs.Naming.{corner_of_lem}
 
 -- ---- one more point
-
--- another point leaves it open, or met as it was
-met_more : (bs : List Box) (qs : List Point) (p q : Point) (met : Option CornerKey) → (q ≡ p → ⊥) → MetSays bs qs p met → MetSays bs (qs ++ (q ∷ [])) p met
-met_more bs qs p q None ne m = λ s. all_append (m (supported_fewer p qs (q ∷ []) s)) (ne & none)
-met_more bs qs p q (Some w) ne m = m
 
 -- the point is the plug
 met_here : {p : Point} (met : Option CornerKey) (v : CornerKey) → corner_point v ≡ p → MetOn p met v (Some v)
@@ -83,20 +78,6 @@ module _ {bs : List Box} {p : Point} where
   looks_then {view = view} {xs} {ys} o n = record { says = λ qs s. subst (λ l. ViewSays bs l p view) (append_assoc qs xs ys) (n.says (qs ++ xs) (o.says qs s)) }
 
 -- ---- the corners of boxes, box by box
-
--- those of some boxes, then of others
-corners_append : (set : CornerSet) (xs ys : List Box) → corners_by set (xs ++ ys) ≡ corners_by set xs ++ corners_by set ys
-corners_append set [] ys = refl
-corners_append set (b ∷ xs) ys = ap (λ l. corners_in set b ++ l) (corners_append set xs ys) ∙ sym (append_assoc (corners_in set b) (corners_by set xs) (corners_by set ys))
-
--- those of the first k + 1 boxes are those of the first k and of the one at k
-one_more : (set : CornerSet) (bs : List Box) (k : ℕ) → k < length bs → corners_by set (take k bs) ++ corners_in set (nth_box bs k) ≡ corners_by set (take (k + 1) bs)
-one_more set bs k h =
-    let e : k + 1 ≡ suc k = omega arith in
-    rw e
-    (ap (λ l. corners_by set (take k bs) ++ l) (sym (append-nil (corners_in set (nth_box bs k))))
-    ∙ sym (corners_append set (take k bs) (nth_box bs k ∷ []))
-    ∙ ap (corners_by set) (sym (take-suc bs k _ h)))
 
 -- one corner of every box
 one_corner : (c : Corner) (bs : List Box) → corners_by (One c) bs ≡ corners_of c bs
@@ -183,6 +164,10 @@ module _ (plug : ℕ) (bs : List Box) (spans : All BoxInSpan bs) where
   -- all of them
   pub looks_over : (set : CornerSet) (start : View) → LooksOver bs p start set (looked_over plug set 1 start bs)
   looks_over set start = looks_from set start (length bs) 0 (omega arith) start looks_none
+
+  -- so does what was found
+  pub looks_found : (set : CornerSet) (start : View) {view : View} → view ≡ looked_over plug set 1 start bs → LooksOver bs p start set view
+  looks_found set start e = subst (LooksOver bs p start set) (sym e) (looks_over set start)
 
   -- that one corner of every box
   pub view_says : (corner : Corner) → CornerViewSays bs corner p (view_of plug corner bs)

@@ -14,9 +14,6 @@ use Rattle.balances.proofs.balance_in_triangle.Goals as goal
 pub positive_area-at_a-requires : goal.positive_area-at_a-requires
 positive_area-at_a-requires c = let w = c.requires.1 in record { key = (c.requires.0, w.key_b, w.key_c); pos_bound = <→≤ w.of_b_c }
 
-pub positive_area-at_b-requires : goal.positive_area-at_b-requires
-positive_area-at_b-requires c = let w = c.requires.1 in record { key = (c.requires.0, w.key_c, w.key_a); pos_bound = <→≤ w.of_c_a }
-
 pub returns : goal.returns
 returns c =
     let e : Some (entries c.entry_of.result c.entry_of-2.result c.entry_of-3.result) ≡ among_three c.args.plug c.args.a c.args.b c.args.c =

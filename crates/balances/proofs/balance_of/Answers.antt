@@ -26,7 +26,7 @@ by-sw plug bs view e = ap (λ x. option_or x (balance_of_view plug (looked_over 
 
 pub returns-in-Some : goal.returns-in-Some
 returns-in-Some c =
-    let e = by-sw c.args.plug (boxes_of c.args.boxes.numbers.now) c.args.view (sym c.balance_by-sw.ensures.exact ∙ c.in-Some.is) in
+    let e = by-sw c.args.plug (boxes_of c.args.boxes.numbers.now) c.args.view (sym c.balance_by.ensures.exact ∙ c.in-Some.is) in
     record { exact = e; balances = by_all c.args.plug c.requires.key (boxes_of c.args.boxes.numbers.now) c.args.boxes.accepted.in_span c.args.view c.requires.corner_view_says e }
 
 pub look_over-all-requires : goal.look_over-all-requires
@@ -34,8 +34,8 @@ look_over-all-requires c =
     let bs = boxes_of c.args.boxes.numbers.now in
     (c.requires.key, says_keyed bs (corners_of SouthWest bs) (point_of c.args.plug) c.args.view.cone c.requires.corner_view_says.of_cone)
 
-pub balance_by-requires : goal.balance_by-requires
-balance_by-requires c =
+pub balance_by-requires-2 : goal.balance_by-requires-2
+balance_by-requires-2 c =
     let bs = boxes_of c.args.boxes.numbers.now in (
       c.requires.key,
       subst (λ (v : View). Known (point_of c.args.plug) v.cone) (sym c.look_over-all.ensures.exact)
@@ -44,5 +44,5 @@ balance_by-requires c =
 
 pub returns : goal.returns
 returns c =
-    let e = c.balance_by.ensures.exact ∙ ap (balance_of_view c.args.plug) c.look_over-all.ensures.exact ∙ by-sw c.args.plug (boxes_of c.args.boxes.numbers.now) c.args.view (sym c.balance_by-sw.ensures.exact ∙ c.in_default.is) in
+    let e = c.balance_by-2.ensures.exact ∙ ap (balance_of_view c.args.plug) c.look_over-all.ensures.exact ∙ by-sw c.args.plug (boxes_of c.args.boxes.numbers.now) c.args.view (sym c.balance_by.ensures.exact ∙ c.in_default.is) in
     record { exact = e; balances = by_all c.args.plug c.requires.key (boxes_of c.args.boxes.numbers.now) c.args.boxes.accepted.in_span c.args.view c.requires.corner_view_says e }

@@ -9,7 +9,7 @@ use native.Mathlib.Omega.{arith}
 use lib.ListN.{length, drop}
 use Rattle.plane.specs.Members.{All}
 use Rattle.plane.proofs.Lists.{index_of_all}
-use Rattle.turns.specs.Keys.{Key, point_of}
+use Rattle.turns.specs.Keys.{Key}
 use Rattle.rounds.specs.Boxes.{boxes_of, BoxInSpan}
 use Rattle.rounds.specs.declared.Box.{Box}
 use Rattle.rounds.proofs.Rows.{boxes_length}
@@ -21,11 +21,11 @@ use Rattle.passes.specs.Passes.{nth_box, names_in}
 use Rattle.passes.specs.declared.CornerSet.{CornerSet}
 use Rattle.passes.specs.declared.CornerSet.TheVariants.{One, Four}
 use Rattle.passes.proofs.Keeping.{numbered_key}
-use Rattle.views.specs.Views.{nth_name, LooksOver}
+use Rattle.views.specs.Views.{nth_name}
 use Rattle.views.specs.Looking.{met_with, view_with, looked_over}
 use Rattle.views.specs.declared.View.{View}
 use Rattle.views.proofs.Looking.{seen, rest, not_around, rest_all, passes_on, takes_corner, ends_box, ends_all}
-use Rattle.views.proofs.Viewing.{looks_over}
+use Rattle.views.proofs.Viewing.{looks_found}
 use Rattle.views.proofs.look_over.Goals as goal
 
 few-names : (set : CornerSet) → (0 < length (names_in set)) × (length (names_in set) ≤ 4)
@@ -99,7 +99,7 @@ returns-in-Around c =
     (record { is_corner = x; is_wider = c.widen-cone.ensures.exact; is_met = c.meet-met.ensures.exact })
     (let e = c.corner_count-each.ensures in omega (arith, c.if-j-each.true))
     ∙ ap (λ b. cond b w (further c.args.plug c.args.set bs c.args.start c.loop-k.cone c.loop-k.met c.loop-k.k c.loop-k.j w)) (ap is_around c.in-Around.is)) in
-    record { exact = e; looks_over = subst (LooksOver bs (point_of c.args.plug) c.args.start c.args.set) (sym e) (looks_over c.args.plug bs c.args.boxes.accepted.in_span c.args.set c.args.start) }
+    record { exact = e; looks_over = looks_found c.args.plug bs c.args.boxes.accepted.in_span c.args.set c.args.start e }
 
 pub pass_cone-k-requires-then-j-each : goal.pass_cone-k-requires-then-j-each
 pass_cone-k-requires-then-j-each c =
@@ -164,4 +164,4 @@ pub returns : goal.returns
 returns c =
     let bs = boxes_of c.args.boxes.numbers.now in
     let e = sym (c.loop-k.invariant.same ∙ ends_all c.args.plug c.args.set bs (seen c.loop-k.cone c.loop-k.met) c.loop-k.k c.loop-k.j (omega (arith, boxes_length c.args.boxes.numbers.now))) in
-    record { exact = e; looks_over = subst (LooksOver (boxes_of c.args.boxes.numbers.now) (point_of c.args.plug) c.args.start c.args.set) (sym e) (looks_over c.args.plug (boxes_of c.args.boxes.numbers.now) c.args.boxes.accepted.in_span c.args.set c.args.start) }
+    record { exact = e; looks_over = looks_found c.args.plug bs c.args.boxes.accepted.in_span c.args.set c.args.start e }
