@@ -1,7 +1,6 @@
 // The records of the round file (docs/SCOPE.md 5.1), one at a time: what stands at an offset, and its numbers; a box,
 // a plug and a mark written at an offset. Crate `formats` says what a record is.
-// A file and an offset stay two arguments: the passes keep, return and take offsets, and a struct of both would be taken
-// apart again at each of them.
+// A file and an offset stay two arguments: the passes return and take offsets, and would take a struct apart again.
 #![tactic(auto)]
 
 ghost use Rattle.std.specs.Prelude.{◌+◌, ◌*◌, ◌≤◌, ◌<◌, false, ◌≡◌, ◌++◌, length};
