@@ -1,6 +1,6 @@
 -- The text of a file, by what turns it back. Assumes nothing.
 use mathlib.Core.Path.{◌≡◌, refl, sym, ◌∙◌, ap, ap₂, subst}
-use mathlib.Core.List.{List, [], ◌∷◌, ◌++◌, flat_map, append-nil}
+use mathlib.Core.List.{List, ◌++◌, flat_map, append-nil}
 use Prim.Native.Nat.{ℕ, ◌*◌, ◌/◌, ◌%◌, ◌≤◌, ◌<◌}
 use native.Mathlib.Omega.{arith}
 use borrow.Author.Tests.{lt-ltb, le-ltb, ne_eqb}
@@ -16,7 +16,7 @@ use Rattle.rounds.specs.Boxes.{BoxList, Ordered, boxes_of, most_boxes}
 use Rattle.rounds.specs.Refusals.{none, fault, number_of, refusal_fault, most_input, input_fault, box_list_fault}
 use Rattle.rounds.specs.declared.Cause.TheVariants.{InputTooLong, TooManyBoxes}
 use Rattle.rounds.specs.declared.Refusal.{Refusal}
-use Rattle.plug_words.specs.Plugs.{ShapesOf}
+use Rattle.plug_words.specs.Shapes.{ShapesOf}
 use Rattle.plug_words.specs.declared.RoundShapes.{RoundShapes}
 use Rattle.formats.specs.Content.{content_of}
 use Rattle.formats.specs.Promises.{edges}
@@ -28,7 +28,12 @@ use Rattle.file_passes.proofs.Judging.{WellFormed}
 use Rattle.texts.specs.Text.{refused_line, count_line, plug_lines, whole_fault, text_of, Wrote}
 use Rattle.texts.proofs.Decimals.{few_digits}
 use Rattle.plug_lines.specs.Steps.{most_plugs}
-use Rattle.text_parts.specs.Steps.{most_count_line, most_file_plugs, Refusing, Opened}
+use Rattle.std.specs.Prelude.{Option, None, Result}
+use Rattle.std.specs.Result.{IsErrAnd}
+use Rattle.rounds.proofs.Exits.{passed_on}
+use Rattle.text_parts.specs.Waiting.{most_file_plugs, Waiting}
+use Rattle.text_parts.specs.Steps.{most_count_line, LeftFrom, Opened, OpenedOrRefused}
+use Rattle.text_parts.specs.declared.lines_left.LinesLeft.{LinesLeft}
 use Rattle.text_parts.specs.declared.Opening.{Opening}
 
 -- the line of the counts has at most 22 bytes
@@ -68,15 +73,19 @@ pub too_many : (l : List ℤ) → length l % 4 ≡ 0 → most_boxes < length l /
 unfolding box_list_fault
 too_many l e h = let n : length l ≡ 0 → ⊥ = omega arith in simp (e, ne_eqb _ _ n, lt-ltb most_boxes (length l / 4) h)
 
--- a refusal is the whole text
-pub refused_whole : {file entry vertices exit : List ℕ} {refusal : Refusal} {r : Opening} → refused_line (number_of refusal.cause) refusal.place ≡ text_of file
-    → Refusing refusal entry r exit → Opened file entry r vertices exit
-refused_whole {refusal = refusal} e f =
+-- a refusal is the whole text: as the answer of a `?`, and as the opening that is written
+pub refused_by : (file entry : List ℕ) (r : Result Opening Refusal) (e : Refusal) → IsErrAnd r (λ x. x ≡ e) → refused_line (number_of e.cause) e.place ≡ text_of file
+    → OpenedOrRefused file entry r entry
+refused_by file entry r e h t = subst (λ x. OpenedOrRefused file entry x entry) (sym (passed_on r h)) (t, refl)
+
+pub refused_whole : {file entry same exit : List ℕ} (refusal : Refusal) {n : ℕ} → (refused_line (number_of refusal.cause) refusal.place ≡ text_of file) × (same ≡ entry)
+    → Wrote (refused_line (number_of refusal.cause) refusal.place) same n exit → Opened file entry (record { bytes = n; left = None }) exit
+refused_whole {exit = exit} refusal {n = n} t w =
     record {
       opening = refused_line (number_of refusal.cause) refusal.place;
-      wrote = f.wrote;
-      whole = λ n. e;
-      more = λ n. absurd (omega (arith, f.no_more));
+      wrote = subst (λ x. Wrote (refused_line (number_of refusal.cause) refusal.place) x n exit) t.1 w;
+      is = append-nil (refused_line (number_of refusal.cause) refusal.place) ∙ t.0;
+      few = λ z. absurd (omega (arith, z));
     }
 
 -- ---- a well_formed file
@@ -122,29 +131,27 @@ module _ (file : List ℕ) {counts : Counts} (h : length file ≤ most_input) (w
       pub few_plugs : counts.plugs ≤ most_file_plugs
       few_plugs = omega (arith, edge_count, listed.some, w.few)
 
-      pub opened : {entry vertices exit : List ℕ} {n : ℕ} {polygons : RoundShapes} → ShapesOf (boxes_of (take (4 * counts.boxes) boxes)) vertices polygons
-          → counts.boxes ≤ most_boxes → Wrote (count_line counts.boxes counts.plugs) entry n exit
-          → Opened file entry (record { bytes = n; plugs = counts.plugs; at = at; polygons = polygons }) vertices exit
+      -- the lines of its plugs are to be written
+      pub waiting_first : {shapes : RoundShapes} {l : List ℤ} → ShapesOf (boxes_of l) shapes → l ≡ take (4 * counts.boxes) boxes → Waiting file shapes at 0 counts.plugs
+      waiting_first {shapes} p same =
+          record {
+            shapes_of = ∣ subst (λ l. ShapesOf l shapes) (ap boxes_of (same ∙ front) ∙ boxes_flat (content_of file).boxes) p ∣₁;
+            ordered = subst (All Ordered) (boxes_flat (content_of file).boxes) listed.ordered;
+            within = b.plugs.within;
+            well_formed = b.plugs.well_formed;
+            left = ap length b.plugs.are ∙ sym same_plugs;
+            few = omega (arith, few_plugs);
+          }
+
+      pub opened : {entry exit : List ℕ} {n : ℕ} {left : Option LinesLeft} → counts.boxes ≤ most_boxes → Wrote (count_line counts.boxes counts.plugs) entry n exit
+          → LeftFrom file at 0 counts.plugs left → Opened file entry (record { bytes = n; left = left }) exit
       unfolding plug_lines
-      opened {entry} {vertices} {exit} {n} {polygons} p m o =
+      opened {entry} {exit} {n} {left} m o f =
           record {
             opening = line;
             wrote = o;
-            whole = λ z. sym (append-nil line) ∙ ap (λ ps. line ++ plug_lines 1 bs ps) (sym (none_left ps (omega (arith, same_plugs)))) ∙ text;
-            more = λ z.
-                record {
-                  few = omega (arith, o.counted, few_count counts.boxes counts.plugs (omega arith) (omega (arith, few_plugs)));
-                  waiting =
-                      record {
-                        shapes = subst (λ l. ShapesOf l vertices polygons) (ap boxes_of front ∙ boxes_flat bs) p;
-                        ordered = subst (All Ordered) (boxes_flat bs) listed.ordered;
-                        within = b.plugs.within;
-                        well_formed = b.plugs.well_formed;
-                        left = omega (arith, ap length b.plugs.are, same_plugs);
-                        few = few_plugs;
-                      };
-                  is = ap (λ qs. line ++ plug_lines 1 bs qs) b.plugs.are ∙ text;
-                };
+            is = ap (λ t. line ++ t) f.lines ∙ ap (λ qs. line ++ plug_lines 1 bs qs) b.plugs.are ∙ text;
+            few = λ z. omega (arith, o.counted, few_count counts.boxes counts.plugs (omega arith) (omega (arith, few_plugs)));
           }
         where
           bs : List Box
@@ -155,10 +162,6 @@ module _ (file : List ℕ) {counts : Counts} (h : length file ≤ most_input) (w
 
           line : List ℕ
           line = count_line counts.boxes counts.plugs
-
-          none_left : (qs : List Point) → length qs ≡ 0 → qs ≡ []
-          none_left [] z = refl
-          none_left (q ∷ qs) z = absurd (omega arith)
 
           text : line ++ plug_lines 1 bs ps ≡ text_of file
           text = ap₂ (λ a c. count_line a c ++ plug_lines 1 bs ps) same_boxes same_plugs ∙ text_accepted file h w.no_fault (ap box_list_fault (sym front) ∙ e)

@@ -1,17 +1,13 @@
 -- A text in parts: what its opening and the pieces of its lines ask and leave. Definitions only.
-use Rattle.std.specs.Prelude.{ℕ, ◌+◌, ◌-◌, ◌*◌, ◌≤◌, ◌<◌, min, ◌≡◌, List, ◌++◌, length}
-use Rattle.plane.specs.Members.{All}
-use Rattle.rounds.specs.Boxes.{Ordered}
-use Rattle.rounds.specs.Refusals.{none, number_of}
+use Rattle.std.specs.Prelude.{Option, None, Some, Result, Ok, Err, ℕ, ◌-◌, ◌*◌, ◌≤◌, ◌<◌, min, ◌≡◌, List, [], ◌++◌, length}
+use Rattle.rounds.specs.Refusals.{number_of}
 use Rattle.rounds.specs.declared.Refusal.{Refusal}
-use Rattle.plug_words.specs.Plugs.{ShapesOf}
-use Rattle.plug_words.specs.declared.RoundShapes.{RoundShapes}
-use Rattle.formats.specs.Content.{content_of}
-use Rattle.file_passes.specs.Steps.{ahead}
-use Rattle.texts.specs.Text.{refused_line, plug_lines, text_of, Wrote}
+use Rattle.texts.specs.Text.{refused_line, text_of, Wrote}
 use Rattle.plug_lines.specs.Steps.{most_plug_line}
+use Rattle.text_parts.specs.Waiting.{most_piece, lines_left}
+use Rattle.text_parts.specs.declared.lines_left.LinesLeft.{LinesLeft}
+use Rattle.text_parts.specs.declared.lines_left.Piece.{Piece}
 use Rattle.text_parts.specs.declared.Opening.{Opening}
-use Rattle.text_parts.specs.declared.Piece.{Piece}
 
 -- ---- the most there can be
 
@@ -23,14 +19,6 @@ most_refused_line = 50
 abbrev pub most_count_line : ℕ
 most_count_line = 22
 
--- plugs of an input with a box
-abbrev pub most_file_plugs : ℕ
-most_file_plugs = 6551
-
--- plugs of a piece
-abbrev pub most_piece : ℕ
-most_piece = 256
-
 -- vertices of the five polygons of a round
 abbrev pub most_vertices : ℕ
 most_vertices = 8192
@@ -40,44 +28,41 @@ pub record OpeningRoom (vertices out : List ℕ) : Type 0 where
   pub for_polygons : most_vertices ≤ length vertices
   pub for_line : most_refused_line ≤ length out
 
+-- ---- the lines that are left
+
+-- how many plugs have no line yet
+abbrev pub count_left : Option LinesLeft → ℕ
+count_left None = 0
+count_left (Some l) = l.count
+
+-- their lines
+abbrev pub text_left : Option LinesLeft → List ℕ
+text_left None = []
+text_left (Some l) = lines_left l.file.now l.at l.done
+
+-- they are those of so many plugs of a file, from an offset on, behind so many others
+pub record LeftFrom (file : List ℕ) (at done count : ℕ) (r : Option LinesLeft) : Type 0 where
+  pub counted : count_left r ≡ count
+  pub lines : text_left r ≡ lines_left file at done
+
 -- ---- the parts
 
--- of the plugs of a file so many have their lines; the others are ahead of an offset, and the vertices are those of the round's polygons
-pub record Waiting (file vertices : List ℕ) (polygons : RoundShapes) (plugs at done : ℕ) : Type 0 where
-  pub shapes : ShapesOf (content_of file).boxes vertices polygons
-  pub ordered : All Ordered (content_of file).boxes
-  pub within : at ≤ length file
-  pub well_formed : (ahead file at).fault ≡ none
-  pub left : done + length (ahead file at).plugs ≡ plugs
-  pub few : plugs ≤ most_file_plugs
-
--- the lines of the others
-abbrev pub lines_left : List ℕ → ℕ → ℕ → List ℕ
-lines_left file at done = plug_lines (done + 1) (content_of file).boxes (ahead file at).plugs
-
--- the line of a refusal was written, and no line follows
-pub record Refusing (refusal : Refusal) (entry : List ℕ) (r : Opening) (exit : List ℕ) : Type 0 where
-  pub no_more : r.plugs ≡ 0
-  pub wrote : Wrote (refused_line (number_of refusal.cause) refusal.place) entry r.bytes exit
-
--- an opening behind which lines follow: with them it is the file's text
-pub record LinesFollow (file vertices opening : List ℕ) (r : Opening) : Type 0 where
-  pub few : r.bytes ≤ most_count_line
-  pub waiting : Waiting file vertices r.polygons r.plugs r.at 0
-  pub is : opening ++ lines_left file r.at 0 ≡ text_of file
-
--- the opening of a file's text was written; it is the whole text where no plug's line follows
-pub record Opened (file entry : List ℕ) (r : Opening) (vertices exit : List ℕ) : Type 0 where
+-- the opening of a file's text was written; with the lines that are left it is the text
+pub record Opened (file entry : List ℕ) (r : Opening) (exit : List ℕ) : Type 0 where
   pub opening : List ℕ
   pub wrote : Wrote opening entry r.bytes exit
-  pub whole : r.plugs ≡ 0 → opening ≡ text_of file
-  pub more : 0 < r.plugs → LinesFollow file vertices opening r
+  pub is : opening ++ text_left r.left ≡ text_of file
+  pub few : 0 < count_left r.left → r.bytes ≤ most_count_line
+
+-- the same, or nothing was written and the line of the refusal is the text
+abbrev pub OpenedOrRefused : List ℕ → List ℕ → Result Opening Refusal → List ℕ → Type 0
+OpenedOrRefused file entry (Ok r) exit = Opened file entry r exit
+OpenedOrRefused file entry (Err refusal) exit = (refused_line (number_of refusal.cause) refusal.place ≡ text_of file) × (exit ≡ entry)
 
 -- the lines of the next plugs were written, and the lines of the others are still to come
-pub record NextLines (file vertices : List ℕ) (polygons : RoundShapes) (plugs at done : ℕ) (entry : List ℕ) (r : Piece) (exit : List ℕ) : Type 0 where
+pub record NextLines (l : LinesLeft) (entry : List ℕ) (r : Piece) (exit : List ℕ) : Type 0 where
   pub lines : List ℕ
   pub wrote : Wrote lines entry r.bytes exit
-  pub few : r.bytes ≤ most_plug_line * min (plugs - done) most_piece
-  pub further : r.done ≡ done + min (plugs - done) most_piece
-  pub waiting : Waiting file vertices polygons plugs r.at r.done
-  pub is : lines ++ lines_left file r.at r.done ≡ lines_left file at done
+  pub few : r.bytes ≤ most_plug_line * min l.count most_piece
+  pub further : count_left r.left ≡ l.count - min l.count most_piece
+  pub is : lines ++ text_left r.left ≡ text_left (Some l)
