@@ -13,7 +13,7 @@ use boxes::Boxes;
 use cones::{Cone, CornerKey};
 use rounds::Corner;
 
-// The corners of a box that are looked at: one of them, or all four.
+// The corners of a box that are looked at: one of them, or all four. A slice would ask of callers that it is not empty.
 #[derive(Clone, Copy)]
 pub enum CornerSet {
     One(Corner),
