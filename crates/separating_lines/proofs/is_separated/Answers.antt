@@ -1,13 +1,9 @@
 -- `separating_lines::is_separated` meets its contract. Assumes nothing.
-use mathlib.Core.Path.{sym, subst}
-use mathlib.Core.Bool.{true≢false}
+use mathlib.Core.Path.{subst}
 use Rattle.plane.proofs.Lists.{first, rest}
 use Rattle.cones.specs.Wider.{Keyed}
 use Rattle.cones.specs.declared.Cone.TheVariants.{Wedge}
 use Rattle.separating_lines.proofs.is_separated.Goals as goal
-
-pub returns-in_default : goal.returns-in_default
-returns-in_default c = record { separated = λ e. absurd (true≢false (sym e)) }
 
 pub is_left_of_all-requires : goal.is_left_of_all-requires
 is_left_of_all-requires c =
