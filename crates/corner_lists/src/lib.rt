@@ -38,6 +38,7 @@ pub fn put_two_corners(boxes: Boxes, first: Corner, second: Corner, keys: &mut [
 
 // The least key of all corners, which is that of a south-western one, and the greatest, that of a north-eastern one.
 // What keys holds is lost.
+// PointEnds stays a clause: as a ghost field of the ends and their boxes it would be truncated, and opened at each use.
 pub fn find_corner_ends(boxes: Boxes, keys: &mut [u32]) -> Ends
     requires { length boxes.numbers.now / 4 ≤ length keys.old }
     ensures { PointEnds (all_corners (boxes_of boxes.entry.numbers.now)) result.first result.last }
