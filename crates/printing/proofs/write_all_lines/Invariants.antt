@@ -1,10 +1,10 @@
--- `printing::write_all_lines` meets its contract. The invariant: so many plugs have their lines (proofs/Pieces.antt). Assumes nothing.
-use Prim.Native.Nat.{◌-◌}
+-- `printing::write_all_lines` meets its contract. The invariant: some lines are written, and the others are left (proofs/Pieces.antt). Assumes nothing.
+use Rattle.text_parts.specs.Steps.{count_left}
 use Rattle.printing.proofs.Pieces.{Sofar}
 use Rattle.printing.proofs.write_all_lines.Given as goal
 
-abbrev pub invariant-loop-done : goal.invariant-loop-done
-invariant-loop-done l = Sofar l.file l.vertices l.polygons l.plugs l.from l.initial.out l.at l.done l.bytes l.out
+abbrev pub invariant-loop-left : goal.invariant-loop-left
+invariant-loop-left l = Sofar l.first l.initial.out l.left l.bytes l.out
 
-abbrev pub decreases-loop-done : goal.decreases-loop-done
-decreases-loop-done l = l.plugs - l.done
+abbrev pub decreases-loop-left : goal.decreases-loop-left
+decreases-loop-left l = count_left l.left
