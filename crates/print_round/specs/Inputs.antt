@@ -1,17 +1,10 @@
 -- What reading the input came to, and what printing asks for. Definitions only.
 use Rattle.std.specs.Prelude.{List, ℕ, ◌≡◌, ◌≤◌, length, take}
 use Rattle.text_parts.specs.Steps.{most_vertices}
-use Rattle.print_round.specs.declared.Input.{Input}
-use Rattle.print_round.specs.declared.Input.TheVariants.{Read, Failed}
 
 -- n is the length of a front of some bytes. The second part follows from the first; both are stated so that Rattle proves a part `[..n]` by itself.
 abbrev pub IsPrefixLen : ℕ → List ℕ → Type 0
 IsPrefixLen n bytes = (n ≤ length bytes) × (n ≡ length (take n bytes))
-
--- the bytes that were read, also those before a read that failed, lie within the buffer
-abbrev pub Within : Input → List ℕ → Type 0
-Within (Read n) buffer = IsPrefixLen n buffer
-Within (Failed n) buffer = IsPrefixLen n buffer
 
 -- ---- printing
 
