@@ -9,6 +9,6 @@ returns c =
     let a = c.corner_polygons.result in
     let h = c.corner_polygons.ensures in
     record {
-      promise = answered corners_struct corners_meant _ a c.corners_struct.result h.promise (corners_back a) c.corners_struct.ensures;
-      answered = answered corners_struct corners_meant _ a c.corners_struct.result h.answered (corners_back a) c.corners_struct.ensures;
+      promise = answered corners_struct corners_meant _ a c.from.result h.promise (corners_back a) c.from.ensures;
+      answered = answered corners_struct corners_meant _ a c.from.result h.answered (corners_back a) c.from.ensures;
     }

@@ -9,6 +9,6 @@ returns c =
     let a = c.outer_polygon.result in
     let h = c.outer_polygon.ensures in
     record {
-      promise = answered outer_struct outer_meant _ a c.outer_struct.result h.promise (outer_back a) c.outer_struct.ensures;
-      answered = answered outer_struct outer_meant _ a c.outer_struct.result h.answered (outer_back a) c.outer_struct.ensures;
+      promise = answered outer_struct outer_meant _ a c.from.result h.promise (outer_back a) c.from.ensures;
+      answered = answered outer_struct outer_meant _ a c.from.result h.answered (outer_back a) c.from.ensures;
     }

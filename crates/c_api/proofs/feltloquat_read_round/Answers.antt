@@ -8,4 +8,4 @@ pub returns : goal.returns
 returns c =
     let a = c.read_round.result in
     let h = c.read_round.ensures in
-    answered read_struct read_meant _ a c.read_struct.result h (read_back a) c.read_struct.ensures
+    answered read_struct read_meant _ a c.from.result h (read_back a) c.from.ensures

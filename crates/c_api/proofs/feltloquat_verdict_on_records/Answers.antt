@@ -14,6 +14,6 @@ pub returns : goal.returns
 returns c =
     let v = c.verdict_on.result in
     let h = rw (to_z-of_z w32 _ c.ranges.east, to_z-of_z w32 _ c.ranges.north) at c.verdict_on.ensures in (
-      answered verdict_struct verdict_meant (VerdictIs (edges_of c.args.boxes.now) (point c.args.east c.args.north)) v c.verdict_struct.result h.0 (verdict_back v) c.verdict_struct.ensures,
-      c.verdict_struct.ensures ∙ ap verdict_struct h.1,
+      answered verdict_struct verdict_meant (VerdictIs (edges_of c.args.boxes.now) (point c.args.east c.args.north)) v c.from.result h.0 (verdict_back v) c.from.ensures,
+      c.from.ensures ∙ ap verdict_struct h.1,
     )

@@ -3,7 +3,8 @@ use mathlib.Core.Path.{◌≡◌, ◌∙◌, ap}
 use mir.Syntax.{w32}
 use mir.ValLaws.{to_z-of_z}
 use Rattle.plane.specs.Points.{point}
-use Rattle.verdicts.specs.Verdicts.{word_reply, verdict_on}
+use Rattle.rounds.specs.Replies.{reply_of}
+use Rattle.verdicts.specs.Verdicts.{verdict_on}
 use Rattle.c_verdicts.specs.Verdicts.{word_struct, word_meant}
 use Rattle.c_answers.proofs.Answering.{answered}
 use Rattle.c_verdicts.proofs.Verdicts.{word_back}
@@ -13,6 +14,6 @@ pub returns : goal.returns
 returns c =
     let v = c.word_on.result in
     let h = rw (to_z-of_z w32 _ c.ranges.east, to_z-of_z w32 _ c.ranges.north) at c.word_on.ensures in (
-      answered word_struct word_meant (λ word. word_reply word ≡ verdict_on c.args.boxes.now (point c.args.east c.args.north)) v c.word_struct.result h.0 (word_back v) c.word_struct.ensures,
-      c.word_struct.ensures ∙ ap word_struct h.1,
+      answered word_struct word_meant (λ word. reply_of word ≡ verdict_on c.args.boxes.now (point c.args.east c.args.north)) v c.from.result h.0 (word_back v) c.from.ensures,
+      c.from.ensures ∙ ap word_struct h.1,
     )

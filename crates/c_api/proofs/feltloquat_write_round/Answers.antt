@@ -8,4 +8,4 @@ pub returns : goal.returns
 returns c =
     let a = c.write_round.result in
     let h = c.write_round.ensures in
-    answered write_struct write_meant _ a c.write_struct.result h (write_back a) c.write_struct.ensures
+    answered write_struct write_meant _ a c.from.result h (write_back a) c.from.ensures
