@@ -34,10 +34,6 @@ returns-then-is_separated c =
     let e = outside_from c.args.plug c.requires (boxes_of c.args.boxes.numbers.now) c.args.boxes.accepted.in_span c.args.boxes.accepted.ordered (c.is_separated.ensures.separated c.if-is_separated.true) in
     record { exact = e; judged = judged_found c.args.plug c.requires (boxes_of c.args.boxes.numbers.now) c.args.boxes.accepted.in_span e }
 
-pub balance_of-requires : goal.balance_of-requires
-balance_of-requires c =
-    record { key = c.requires; corner_view_says = says c.args.plug (boxes_of c.args.boxes.numbers.now) c.args.boxes.accepted.in_span c.view_of-view.ensures.exact }
-
 pub returns-in_default : goal.returns-in_default
 returns-in_default c =
     let bs = boxes_of c.args.boxes.numbers.now in
@@ -46,16 +42,7 @@ returns-in_default c =
     ∙ given c.args.plug bs c.view_of-view.ensures.exact in
     record { exact = e; judged = judged_found c.args.plug c.requires (boxes_of c.args.boxes.numbers.now) c.args.boxes.accepted.in_span e }
 
-pub support_of-requires : goal.support_of-requires
-support_of-requires c =
-    record { key = c.requires; corner_view_says = says c.args.plug (boxes_of c.args.boxes.numbers.now) c.args.boxes.accepted.in_span c.view_of-view.ensures.exact }
-
 pub returns-in_default-support_of : goal.returns-in_default-support_of
 returns-in_default-support_of c =
     let e = ap₂ verdict_by (sym c.in-Some.is ∙ c.balance_of.ensures.exact) (sym c.in_default-support_of.is ∙ c.support_of.ensures.exact) ∙ given c.args.plug (boxes_of c.args.boxes.numbers.now) c.view_of-view.ensures.exact in
-    record { exact = e; judged = judged_found c.args.plug c.requires (boxes_of c.args.boxes.numbers.now) c.args.boxes.accepted.in_span e }
-
-pub returns : goal.returns
-returns c =
-    let e = ap₂ verdict_by (sym c.in-Some.is ∙ c.balance_of.ensures.exact) (sym c.in-Some-support_of.is ∙ c.support_of.ensures.exact) ∙ given c.args.plug (boxes_of c.args.boxes.numbers.now) c.view_of-view.ensures.exact in
     record { exact = e; judged = judged_found c.args.plug c.requires (boxes_of c.args.boxes.numbers.now) c.args.boxes.accepted.in_span e }
