@@ -43,41 +43,14 @@ all_three true true false e = absurd (true≢false (sym e))
 all_three true false v e = absurd (true≢false (sym e))
 all_three false u v e = absurd (true≢false (sym e))
 
-pub overflow_cast-a : goal.overflow_cast-a
-overflow_cast-a c = omega (arith, small c.before c.requires.named.0)
-
-pub overflow_sub-a : goal.overflow_sub-a
-overflow_sub-a c = c.requires.named.0.least
-
 pub corner_key-u-requires : goal.corner_key-u-requires
 corner_key-u-requires c = place c.before c.requires.named.0
-
-pub overflow_cast-b : goal.overflow_cast-b
-overflow_cast-b c = omega (arith, small c.before.before.before c.requires.named.1)
-
-pub overflow_sub-b : goal.overflow_sub-b
-overflow_sub-b c = c.requires.named.1.least
 
 pub corner_key-v-requires : goal.corner_key-v-requires
 corner_key-v-requires c = place c.before.before.before c.requires.named.1
 
-pub overflow_cast-c : goal.overflow_cast-c
-overflow_cast-c c = omega (arith, small c.before.before.before.before.before c.requires.named.2)
-
-pub overflow_sub-c : goal.overflow_sub-c
-overflow_sub-c c = c.requires.named.2.least
-
 pub corner_key-w-requires : goal.corner_key-w-requires
 corner_key-w-requires c = place c.before.before.before.before.before c.requires.named.2
-
-pub turns_left-requires : goal.turns_left-requires
-turns_left-requires c = (c.requires.key, c.corner_key-u.ensures.key, c.corner_key-v.ensures.key)
-
-pub turns_left-requires-2 : goal.turns_left-requires-2
-turns_left-requires-2 c = (c.requires.key, c.corner_key-v.ensures.key, c.corner_key-w.ensures.key)
-
-pub turns_left-requires-3 : goal.turns_left-requires-3
-turns_left-requires-3 c = (c.requires.key, c.corner_key-w.ensures.key, c.corner_key-u.ensures.key)
 
 pub returns : goal.returns
 returns c =

@@ -1,9 +1,6 @@
 -- `supports::support_at` meets its contract: three corners round the plug answer as the cone would, or the cone does. Assumes nothing.
 use mathlib.Core.Path.{sym, ◌∙◌, ap, subst}
-use Rattle.turns.specs.Keys.{point_of}
-use Rattle.rounds.specs.Boxes.{boxes_of, corners_of}
-use Rattle.rounds.specs.declared.Corner.TheVariants.{SouthWest}
-use Rattle.cones.specs.Cones.{ConeSays}
+use Rattle.rounds.specs.Boxes.{boxes_of}
 use Rattle.cones.specs.Wider.{Keyed}
 use Rattle.views.specs.declared.View.{View}
 use Rattle.views.proofs.Viewing.{view_keyed}
@@ -11,18 +8,10 @@ use Rattle.supports.specs.Supporting.{support_of_cone}
 use Rattle.supports.proofs.Answering.{corner_surrounds, corner_found}
 use Rattle.supports.proofs.support_at.Goals as goal
 
-pub is_in_triangle-requires : goal.is_in_triangle-requires
-is_in_triangle-requires c =
-    let r = subst (ConeSays (boxes_of c.args.boxes.numbers.now) (corners_of SouthWest (boxes_of c.args.boxes.numbers.now)) (point_of c.args.plug)) c.in-Around.is c.requires.cone_says in
-    record { key = c.requires.key; named = (r.seen_a.named, r.seen_b.named, r.seen_c.named) }
-
 pub returns-then-is_in_triangle : goal.returns-then-is_in_triangle
 returns-then-is_in_triangle c =
     let e = corner_surrounds c.args.plug c.args.corner (boxes_of c.args.boxes.numbers.now) (c.is_in_triangle.ensures.surrounded c.if-is_in_triangle.true) c.args.boxes.accepted.in_span in
     record { exact = e; supports = corner_found c.args.plug c.requires.key c.args.corner (boxes_of c.args.boxes.numbers.now) c.args.boxes.accepted.in_span e }
-
-pub view_of-requires : goal.view_of-requires
-view_of-requires c = c.requires.key
 
 pub support_by-requires : goal.support_by-requires
 support_by-requires c =

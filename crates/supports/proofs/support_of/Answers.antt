@@ -40,21 +40,9 @@ support_by-requires c =
     let bs = boxes_of c.args.boxes.numbers.now in
     (c.requires.key, says_keyed bs (corners_of SouthWest bs) (point_of c.args.plug) c.args.view.cone c.requires.corner_view_says.of_cone)
 
-pub loop-corner-init : goal.loop-corner-init
-loop-corner-init c =
-    let plug = c.args.plug in
-    let bs = boxes_of c.args.boxes.numbers.now in
-    let behind = λ (o : Option Direction). option_or o (option_or (support_of_corner plug SouthEast bs) (option_or (support_of_corner plug NorthEast bs) (support_of_corner plug NorthWest bs))) in
-    ap behind (sym c.in_default.ensures.exact)
-    ∙ ap (λ o. option_or (support_of_corner plug SouthEast bs) (option_or (support_of_corner plug NorthEast bs) o)) (or-none (support_of_corner plug NorthWest bs))
-
 pub loop-corner-preserved : goal.loop-corner-preserved
 loop-corner-preserved c =
     c.loop-corner.invariant ∙ step c.args.plug (boxes_of c.args.boxes.numbers.now) c.loop-corner.corner-index _ c.loop-corner-test.true c.in_default-support_at.ensures.exact
-
-pub returns-in-Some-support_at-clause-exact : goal.returns-in-Some-support_at-clause-exact
-returns-in-Some-support_at-clause-exact c =
-    sym (c.loop-corner.invariant ∙ step c.args.plug (boxes_of c.args.boxes.numbers.now) c.loop-corner.corner-index _ c.loop-corner-test.true c.in-Some-support_at.ensures.exact)
 
 pub returns : goal.returns
 returns c =
