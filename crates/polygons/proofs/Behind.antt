@@ -1,12 +1,11 @@
 -- Polygons written one behind another. Assumes nothing.
 use mathlib.Core.Path.{◌≡◌, sym, ◌∙◌, ap}
 use mathlib.Core.List.{List, ◌++◌, map, append_assoc}
-use Prim.Native.Nat.{ℕ, ◌+◌, ◌-◌, ◌*◌, ◌/◌, ◌≤◌}
+use Prim.Native.Nat.{ℕ, ◌+◌, ◌*◌, ◌/◌, ◌≤◌}
 use native.Mathlib.Omega.{arith}
 use lib.IntN.{ℤ}
 use lib.ListN.{length, take, drop, length-map, length-append}
 use lib.Seq.{length-take-le}
-use Rattle.integers.proofs.Parts.{tail_call}
 use Rattle.plane.specs.declared.Point.{Point}
 use Rattle.turns.specs.Keys.{point_of}
 use Rattle.rounds.specs.Boxes.{boxes_of, corners_of}
@@ -31,12 +30,6 @@ written qs ks count d after p h e =
       made = record { polygon = p.polygon; counted = sym (length-map (take count ks) point_of ∙ length-take-le count ks h); few = p.few };
       buffer = e;
     }
-
--- the same in a part that was lent on: ys is what the writer left of it
-pub written_behind : (qs : List Point) (k : ℕ) (xs ys : List ℤ) (count : ℕ) → PolygonWritten qs 0 (take (length xs - k) (drop k xs)) count ys
-    → PolygonWritten qs k xs count (take k xs ++ (ys ++ drop (length xs - k) (drop k xs)))
-written_behind qs k xs ys count w =
-    record { vertices = w.vertices; made = w.made; buffer = tail_call (over_front (flat w.vertices)) k xs ys w.buffer }
 
 -- vertices behind vertices, which stand behind the first k
 more_vertices : (vs ws : List Point) (d xs ys : List ℤ) (k j : ℕ) → k + length vs * 2 ≡ j → j ≤ length d
