@@ -88,6 +88,7 @@ fn widen_line(a: CornerKey, b: CornerKey, v: CornerKey, plug: u32) -> Cone
 }
 
 // The cone of a wedge and of one more point: where it is right of the one ray or left of the other, it takes its place.
+// Nine arms: with arms joined by `|`, or one match of both turns, the proof of `exact` did not close.
 #[tactic(auto, using(crate::proofs::Wider::found_says))]
 fn widen_wedge(a: CornerKey, b: CornerKey, v: CornerKey, plug: u32) -> Cone
     requires { Key a.key × Key b.key × Key v.key × Key plug }
