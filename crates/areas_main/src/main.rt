@@ -58,6 +58,7 @@ fn run_case(input: &mut impl Read, output: &impl Print, list: &mut [i32]) -> io:
     run_corners(input, output, boxes)
 }
 
+// Each driver has this loop: a closure over its buffers, passed to one loop, would be no plainer.
 fn main(rt: HostRuntime) -> io::Result<()> {
     let mut input = rt.stdin();
     let output = rt.stdout();

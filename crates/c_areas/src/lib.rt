@@ -29,6 +29,7 @@ pub struct CornersAnswer {
     pub northwest: usize,
 }
 
+// The structs are C's, each with fields of its own, so each is made by a `From` of its own.
 impl From<Result<usize, Refusal>> for OuterAnswer {
     ghost from_gives = { λ reply answer. answer ≡ outer_struct reply };
 

@@ -27,6 +27,7 @@ pub struct WriteAnswer {
     pub bytes: usize,
 }
 
+// The structs are C's, each with fields of its own, so each is made by a `From` of its own.
 impl From<Result<Counts, Refusal>> for ReadAnswer {
     ghost from_gives = { λ reading answer. answer ≡ read_struct reading };
 

@@ -67,6 +67,7 @@ fn run_case(input: &mut impl Read, output: &impl Print, file: &mut [u8]) -> io::
     run_writer(output, boxes, plugs, written)
 }
 
+// Each driver has this loop: a closure over its buffers, passed to one loop, would be no plainer.
 fn main(rt: HostRuntime) -> io::Result<()> {
     let mut input = rt.stdin();
     let output = rt.stdout();
