@@ -1,21 +1,18 @@
 -- The pieces of the plugs' lines, one behind another. Assumes nothing.
 use mathlib.Core.Path.{◌≡◌, refl, sym, ◌∙◌, ap}
 use mathlib.Core.List.{List, [], ◌++◌, append-nil, append_assoc}
-use Prim.Native.Nat.{ℕ, ◌+◌, ◌-◌, ◌*◌, ◌≤◌, ◌<◌, min}
-use native.Mathlib.Decide.{dec_lt}
+use Prim.Native.Nat.{ℕ, ◌+◌, ◌-◌, ◌*◌, ◌≤◌, min}
 use native.Mathlib.Omega.{arith}
-use lib.ListN.{length, take, drop, length-append, length-drop}
+use lib.ListN.{length, take, drop, length-drop}
 use Rattle.std.specs.Prelude.{Option, None, Some}
 use Rattle.integers.proofs.Parts.{tail_is}
 use Rattle.texts.specs.Text.{Wrote}
 use Rattle.texts.proofs.Writing.{wrote_none, then_wrote, wrote_length}
 use Rattle.plug_lines.specs.Steps.{most_plug_line}
-use Rattle.text_parts.specs.Waiting.{most_piece, most_file_plugs}
-use Rattle.text_parts.specs.Steps.{count_left, text_left, Opened, NextLines}
+use Rattle.text_parts.specs.Waiting.{most_piece}
+use Rattle.text_parts.specs.Steps.{count_left, text_left, NextLines}
 use Rattle.text_parts.specs.declared.lines_left.LinesLeft.{LinesLeft}
 use Rattle.text_parts.specs.declared.lines_left.Piece.{Piece}
-use Rattle.text_parts.specs.declared.Opening.{Opening}
-use Rattle.printing.specs.Steps.{most_text}
 
 -- some of the lines are written, and the others are left
 pub record Sofar (first : Option LinesLeft) (entry : List ℕ) (left : Option LinesLeft) (bytes : ℕ) (out : List ℕ) : Type 0 where
@@ -53,18 +50,3 @@ module _ {first : Option LinesLeft} {entry : List ℕ} (r : most_plug_line * cou
           few = omega (arith, i.few, ap count_left e, n.few, n.further);
           is = append_assoc i.lines n.lines (text_left piece.left) ∙ ap (λ t. i.lines ++ t) (n.is ∙ ap text_left (sym e)) ∙ i.is;
         }
-
--- ---- the opening, and the lines behind it
-
-few_left : (left : Option LinesLeft) → count_left left ≤ most_file_plugs
-few_left None = omega arith
-few_left (Some l) = omega (arith, l.waiting.few)
-
--- both have room
-pub opened_room : {file entry exit : List ℕ} {r : Opening} (o : Opened file entry r exit) → length exit ≡ length entry → most_text ≤ length entry
-    → length o.opening + most_plug_line * count_left r.left ≤ length entry
-opened_room {entry = entry} {r = r} o e h = go (dec_lt 0 (count_left r.left))
-  where
-    go : Dec (0 < count_left r.left) → length o.opening + most_plug_line * count_left r.left ≤ length entry
-    go (yes k) = omega (arith, o.few k, o.wrote.counted, few_left r.left, h)
-    go (no k) = omega (arith, k, e, ap length o.wrote.bytes, length-append o.opening (drop (length o.opening) entry))

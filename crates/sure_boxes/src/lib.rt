@@ -12,18 +12,10 @@ ghost use Rattle.plug_words.specs.Plugs.{WordBy, Sure};
 use extremes::Far;
 use plane::Point;
 use rounds::{Box, Corner, Word};
-use words::Polygons;
+use words::{CORNERS, Polygons};
 
 // For fewer plugs no box is sought: to find one takes as long as a few of them do, as measured.
 const FEW_PLUGS: usize = 32;
-
-// The four corners of a box.
-const CORNERS: [Corner; 4] = [
-    Corner::SouthWest,
-    Corner::SouthEast,
-    Corner::NorthEast,
-    Corner::NorthWest,
-];
 
 // A key that lies as far as any in the direction of the key `toward`. Only that it is a key is promised: which it is
 // decides how large the box becomes.

@@ -13,6 +13,14 @@ use locations::Place;
 use outlines::RoundCounts;
 use rounds::{Corner, Word};
 
+// The four corner names, in the order of the corner polygons.
+pub const CORNERS: [Corner; 4] = [
+    Corner::SouthWest,
+    Corner::SouthEast,
+    Corner::NorthEast,
+    Corner::NorthWest,
+];
+
 // The five polygons of a round: their vertices one polygon behind another, and how many each has.
 #[derive(Clone, Copy)]
 pub struct Polygons<'a> {
@@ -61,17 +69,10 @@ fn word_by_corners(polygons: Polygons, plug: u32) -> Word
     requires place_of { PlaceOf (outer_vertices polygons.counts polygons.vertices.now) plug Place.Within }
     ensures { WordIn polygons.entry.vertices.now polygons.entry.counts plug result }
 {
-    if !is_within(polygons.of_corner(Corner::SouthWest), plug) {
-        return Word::Undecided;
-    }
-    if !is_within(polygons.of_corner(Corner::SouthEast), plug) {
-        return Word::Undecided;
-    }
-    if !is_within(polygons.of_corner(Corner::NorthEast), plug) {
-        return Word::Undecided;
-    }
-    if !is_within(polygons.of_corner(Corner::NorthWest), plug) {
-        return Word::Undecided;
+    for corner in CORNERS {
+        if !is_within(polygons.of_corner(corner), plug) {
+            return Word::Undecided;
+        }
     }
     Word::Inside
 }
