@@ -22,7 +22,7 @@ use words::Polygons;
 // The most vertices of the five polygons of a round.
 pub const MOST_VERTICES: usize = 8192;
 
-// Writes a word after a plug's number.
+// Writes a word after a plug's number: as bytes, since a sink for the word's Display would be longer than this match.
 fn write_word(word: Word, out: &mut [u8]) -> usize
     requires { most_after_number ≤ length out.old }
     ensures { Wrote (after_number (replied word)) out.old result out.new }

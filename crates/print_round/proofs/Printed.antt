@@ -27,10 +27,6 @@ pub record Sofar (file : List ℕ) (left : Option LinesLeft) (old new : Option (
   pub appends : Appends old new printed
   pub is : printed ++ text_left left ≡ text_of file
 
--- at the opening
-pub sofar_opened : {file entry text : List ℕ} {r : Opening} (old new : Option (List ℕ)) → Opened file entry r text → Appends old new (take r.bytes text) → Sofar file r.left old new
-sofar_opened old new o a = record { printed = o.opening; appends = subst (λ t. Appends old new t) (wrote_front o.wrote) a; is = o.is }
-
 -- after the next lines
 pub sofar_lines : {file entry text : List ℕ} {left : Option LinesLeft} {l : LinesLeft} {r : Piece} (old mid new : Option (List ℕ)) → Sofar file left old mid → left ≡ Some l
     → NextLines l entry r text → Appends mid new (take r.bytes text) → Sofar file r.left old new
@@ -40,7 +36,3 @@ sofar_lines {r = r} old mid new s e n a =
       appends = appends_both old mid new s.printed n.lines s.appends (subst (λ t. Appends mid new t) (wrote_front n.wrote) a);
       is = append_assoc s.printed n.lines (text_left r.left) ∙ ap (λ t. s.printed ++ t) (n.is ∙ ap text_left (sym e)) ∙ s.is;
     }
-
--- none is left
-pub sofar_all : {file : List ℕ} {left : Option LinesLeft} (old new : Option (List ℕ)) → Sofar file left old new → left ≡ None → Appends old new (text_of file)
-sofar_all old new s e = subst (λ t. Appends old new t) (sym (append-nil s.printed) ∙ ap (λ l. s.printed ++ text_left l) (sym e) ∙ s.is) s.appends

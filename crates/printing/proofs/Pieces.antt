@@ -21,16 +21,9 @@ pub record Sofar (first : Option LinesLeft) (entry : List ℕ) (left : Option Li
   pub few : bytes + most_plug_line * count_left left ≤ most_plug_line * count_left first
   pub is : lines ++ text_left left ≡ text_left first
 
-pub sofar_none : (first : Option LinesLeft) (entry : List ℕ) → Sofar first entry first 0 entry
-sofar_none first entry = record { lines = []; wrote = wrote_none entry; few = omega arith; is = refl }
-
 module _ {first : Option LinesLeft} {entry : List ℕ} (r : most_plug_line * count_left first ≤ length entry) {left : Option LinesLeft} {bytes : ℕ} {out : List ℕ} (i : Sofar first entry left bytes out) where
   pub sofar_length : length out ≡ length entry
   sofar_length = wrote_length i.wrote (omega (arith, i.wrote.counted, i.few))
-
-  -- none is left
-  pub sofar_all : left ≡ None → i.lines ≡ text_left first
-  sofar_all e = sym (append-nil i.lines) ∙ ap (λ l. i.lines ++ text_left l) (sym e) ∙ i.is
 
   module _ {l : LinesLeft} (e : left ≡ Some l) where
     -- room for the next piece
