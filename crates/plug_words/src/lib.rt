@@ -17,7 +17,7 @@ use words::Polygons;
 pub struct RoundShapes<'a> {
     pub polygons: Polygons<'a>,
     pub sure: Option<Box>,
-    ghost inside: { IfSome sure (λ b. Sure polygons.vertices.now polygons.counts b) } by { Prim.hlevel (props, ⊎_set) },
+    ghost inside: { IfSome sure (Sure polygons.vertices.now polygons.counts) } by { Prim.hlevel (props, ⊎_set) },
 }
 
 // The word of a plug against the polygons of a round, or its refusal.
