@@ -41,6 +41,7 @@ pub struct WordAnswer {
     pub word: u32,
 }
 
+// The structs are C's, each with fields of its own, so each is made by a `From` of its own.
 impl From<Entry> for EntryAnswer {
     ghost from_gives = { λ entry answer. answer ≡ entry_struct entry };
 

@@ -5,7 +5,7 @@
 // answer.
 #![tactic(auto)]
 
-ghost use Rattle.std.specs.Prelude.{◌≤◌, length};
+ghost use Rattle.std.specs.Prelude.{◌≡◌, ◌≤◌, length, take};
 
 use std::fmt::Display;
 use std::io::{self, Read};
@@ -31,7 +31,8 @@ pub fn read_number(input: &mut impl Read) -> i32 {
 
 // The part at the front of a list that the next count says: no more than the list has.
 pub fn read_front<'a, T>(input: &mut impl Read, list: &'a mut [T]) -> &'a mut [T]
-    ensures { length result.now ≤ length list.old }
+    ensures within { length result.now ≤ length list.old }
+    ensures front { result.now ≡ take (length result.now) list.old }
 {
     let count = (read_count(input) as usize).min(list.len());
     &mut list[..count]

@@ -20,6 +20,7 @@ const READ_LENGTH: usize = MOST_INPUT + 1;
 
 // Reads until the buffer is full, the input ends or a read fails: how many bytes now stand at the front of the buffer,
 // and how the last read went.
+// A loop over `read`: `read_exact` would not tell how many bytes came before the end.
 fn read_input(source: &mut impl Read, buffer: &mut [u8]) -> (usize, io::Result<()>)
     ensures { IsPrefixLen result.0 buffer.new }
 {

@@ -45,6 +45,7 @@ fn farthest_vertex(polygons: Polygons, corner: Corner, toward: Point) -> u32
 }
 
 // In each direction the farthest vertex of the corner polygon that reaches least far there.
+// Each direction is named once: a loop over corners would name both in a table.
 fn find_far(polygons: Polygons) -> Far
     ensures { Key result.ne × Key result.nw × Key result.sw × Key result.se }
 {

@@ -1,5 +1,5 @@
 -- One piece of the plugs' lines. Assumes nothing.
-use mathlib.Core.Path.{◌≡◌, refl, sym, ◌∙◌, ap}
+use mathlib.Core.Path.{◌≡◌, refl, sym, ◌∙◌, ap, subst}
 use mathlib.Core.List.{List, [], ◌∷◌, ◌++◌, flat_map, append_assoc}
 use Prim.Native.Nat.{ℕ, ◌+◌, ◌-◌, ◌*◌, min}
 use native.Mathlib.Nat.{add-zero}
@@ -26,7 +26,7 @@ use Rattle.std.proofs.Props.{props}
 use Rattle.plug_words.specs.Shapes.{ShapesOf}
 use Rattle.plug_words.specs.declared.RoundShapes.{RoundShapes}
 use Rattle.text_parts.specs.Waiting.{most_piece, Waiting}
-use Rattle.text_parts.specs.Steps.{LeftFrom, NextLines}
+use Rattle.text_parts.specs.Steps.{Behind, LeftFrom, NextLines}
 use Rattle.text_parts.specs.declared.lines_left.LinesLeft.{LinesLeft}
 
 -- the lines of plugs and of those behind them
@@ -77,6 +77,7 @@ module _ (l : LinesLeft) {count : ℕ} (m : count ≡ min l.count most_piece) {z
         wrote = wrote;
         few = omega (arith, wrote.counted, few_lines (l.done + 1) bs new (omega (arith, so_many, w.few, m)), so_many, m);
         further = f.counted ∙ ap (λ k. l.count - k) m;
+        behind = subst (λ k. Behind l.file.now (l.done + k) left) m f.behind;
         is =
             ap (λ s. t ++ s) f.lines
             ∙ ap (λ rest. t ++ plug_lines (l.done + count + 1) bs rest) p.rest.are
@@ -88,7 +89,7 @@ module _ (l : LinesLeft) {count : ℕ} (m : count ≡ min l.count most_piece) {z
 -- no plug is left, and no line
 pub none_from : {file : List ℕ} {shapes : RoundShapes} {at done count : ℕ} → Waiting file shapes at done count → count ≡ 0 → LeftFrom file at done count None
 unfolding plug_lines
-none_from {file} {at = at} {done = done} w z = record { counted = sym z; lines = none_of (ahead file at).plugs (w.left ∙ z) }
+none_from {file} {at = at} {done = done} w z = record { counted = sym z; lines = none_of (ahead file at).plugs (w.left ∙ z); behind = tt }
   where
     none_of : (ps : List Point) → length ps ≡ 0 → [] ≡ plug_lines (done + 1) (content_of file).boxes ps
     none_of [] e = refl

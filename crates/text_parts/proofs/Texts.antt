@@ -86,6 +86,7 @@ refused_whole {exit = exit} refusal {n = n} t w =
       wrote = subst (λ x. Wrote (refused_line (number_of refusal.cause) refusal.place) x n exit) t.1 w;
       is = append-nil (refused_line (number_of refusal.cause) refusal.place) ∙ t.0;
       few = λ z. absurd (omega (arith, z));
+      behind = tt;
     }
 
 -- ---- a well_formed file
@@ -152,6 +153,7 @@ module _ (file : List ℕ) {counts : Counts} (h : length file ≤ most_input) (w
             wrote = o;
             is = ap (λ t. line ++ t) f.lines ∙ ap (λ qs. line ++ plug_lines 1 bs qs) b.plugs.are ∙ text;
             few = λ z. omega (arith, o.counted, few_count counts.boxes counts.plugs (omega arith) (omega (arith, few_plugs)));
+            behind = f.behind;
           }
         where
           bs : List Box

@@ -1,5 +1,5 @@
 -- A text in parts: what its opening and the pieces of its lines ask and leave. Definitions only.
-use Rattle.std.specs.Prelude.{Option, None, Some, Result, Ok, Err, ℕ, ◌-◌, ◌*◌, ◌≤◌, ◌<◌, min, ◌≡◌, List, [], ◌++◌, length}
+use Rattle.std.specs.Prelude.{Option, None, Some, Result, Ok, Err, ℕ, ◌+◌, ◌-◌, ◌*◌, ◌≤◌, ◌<◌, min, ◌≡◌, List, [], ◌++◌, length}
 use Rattle.rounds.specs.Refusals.{number_of}
 use Rattle.rounds.specs.declared.Refusal.{Refusal}
 use Rattle.texts.specs.Text.{refused_line, text_of, Wrote}
@@ -40,10 +40,16 @@ abbrev pub text_left : Option LinesLeft → List ℕ
 text_left None = []
 text_left (Some l) = lines_left l.file.now l.at l.done
 
+-- they are of that file, and behind so many others
+abbrev pub Behind : List ℕ → ℕ → Option LinesLeft → Type 0
+Behind file done None = Unit {0}
+Behind file done (Some l) = (l.file.now ≡ file) × (l.done ≡ done)
+
 -- they are those of so many plugs of a file, from an offset on, behind so many others
 pub record LeftFrom (file : List ℕ) (at done count : ℕ) (r : Option LinesLeft) : Type 0 where
   pub counted : count_left r ≡ count
   pub lines : text_left r ≡ lines_left file at done
+  pub behind : Behind file done r
 
 -- ---- the parts
 
@@ -53,6 +59,7 @@ pub record Opened (file entry : List ℕ) (r : Opening) (exit : List ℕ) : Type
   pub wrote : Wrote opening entry r.bytes exit
   pub is : opening ++ text_left r.left ≡ text_of file
   pub few : 0 < count_left r.left → r.bytes ≤ most_count_line
+  pub behind : Behind file 0 r.left
 
 -- the same, or nothing was written and the line of the refusal is the text
 abbrev pub OpenedOrRefused : List ℕ → List ℕ → Result Opening Refusal → List ℕ → Type 0
@@ -66,3 +73,4 @@ pub record NextLines (l : LinesLeft) (entry : List ℕ) (r : Piece) (exit : List
   pub few : r.bytes ≤ most_plug_line * min l.count most_piece
   pub further : count_left r.left ≡ l.count - min l.count most_piece
   pub is : lines ++ text_left r.left ≡ text_left (Some l)
+  pub behind : Behind l.file.now (l.done + min l.count most_piece) r.left
