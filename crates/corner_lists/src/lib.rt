@@ -15,6 +15,7 @@ use extremes::Ends;
 use rounds::Corner;
 
 // Writes the keys of that one corner of every box to the front of keys.
+#[inline(always)]
 pub fn put_corner_keys(boxes: Boxes, corner: Corner, keys: &mut [u32])
     requires { length boxes.numbers.now / 4 ≤ length keys.old }
     ensures { KeysOf (corners_of corner (boxes_of boxes.entry.numbers.now)) keys.new }
@@ -25,6 +26,7 @@ pub fn put_corner_keys(boxes: Boxes, corner: Corner, keys: &mut [u32])
 }
 
 // Writes the keys of one corner of every box to the front of keys, and those of another behind them.
+#[inline(always)]
 pub fn put_two_corners(boxes: Boxes, first: Corner, second: Corner, keys: &mut [u32])
     requires { length boxes.numbers.now / 4 + length boxes.numbers.now / 4 ≤ length keys.old }
     ensures { KeysOf

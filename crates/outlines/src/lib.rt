@@ -28,6 +28,7 @@ pub struct RoundCounts {
 
 // The corner polygon of that one corner of every box: the first of vertices, as many as are returned.
 // What the scratch holds is lost.
+#[inline(always)]
 pub fn corner_outline(
     boxes: Boxes,
     corner: Corner,

@@ -101,6 +101,7 @@ struct Scratch<const SIZE: usize> {
 
 impl<const SIZE: usize> Scratch<SIZE> {
     // Writes the polygon of that one corner of every box over the front of answer.
+    #[inline(always)]
     #[tactic(auto, using(corners::proofs::Places::corners_length))]
     fn write_corner(&mut self, boxes: Boxes, corner: Corner, answer: &mut [i32]) -> usize
         requires size { length boxes.numbers.now / 4 ≤ SIZE }
@@ -121,6 +122,7 @@ impl<const SIZE: usize> Scratch<SIZE> {
 
     // Writes the polygon of that one corner of every box into the part of answer that the first `from` numbers leave
     // free.
+    #[inline(always)]
     fn append_corner(
         &mut self,
         boxes: Boxes,
@@ -137,6 +139,7 @@ impl<const SIZE: usize> Scratch<SIZE> {
     }
 
     // Writes the polygons of two corners of every box, one behind the other, likewise.
+    #[inline(always)]
     #[tactic(auto, using(corners::proofs::Places::corners_length))]
     fn append_two_corners(
         &mut self,
