@@ -24,7 +24,7 @@ fn list_outer(boxes: Boxes, answer: &mut [i32]) -> usize
 }
 
 // Writes the corner polygons and the zeros after them.
-// The two pairs of calls stay apart: one pair would take the writer as a closure, with its contract, to save four lines.
+// The two pairs of calls stay apart: one pair would take the writer as a closure with its contract, to save four lines.
 #[tactic(auto, using(corners::proofs::Places::corners_length))]
 fn list_corners(boxes: Boxes, answer: &mut [i32]) -> VertexCounts
     requires { needed boxes.numbers.now ≤ length answer.old }

@@ -1,6 +1,6 @@
 // The passes of the reader over a round file (docs/SCOPE.md 5.3, 6.4), each by `file_records::next_record`: one judges
 // the form and counts; one reads the boxes of a well-formed file; one reads some of its plugs, from an offset on.
-// A pass is a loop, since records are of several lengths: an offset leads from one to the next, and no index counts them.
+// A pass is a loop, since records are of several lengths: an offset leads from one to the next, no index counts them.
 #![tactic(auto)]
 
 ghost use Rattle.std.specs.Prelude.{◌≡◌, length};

@@ -13,7 +13,7 @@ use extremes::Ends;
 use rounds::Corner;
 
 // Scratch for the keys of two corners of each of the most boxes that a round has, and a little more, so that each chain
-// ends in it. It is lent as two slices: a struct of them would have to promise at each call that it keeps their lengths.
+// ends in it. It is lent as two slices: a struct of them would have to promise at each call that their lengths stay.
 pub const MOST_KEYS: usize = 2052;
 
 // How many vertices each of the five polygons of a round has. Their keys stand one behind another, in this order.
@@ -85,7 +85,8 @@ fn outer_chains(
     keys: &mut [u32],
     list: &mut [u32],
 ) -> usize
-    requires point_ends { PointEnds (all_corners (boxes_of boxes.numbers.now)) ends.first ends.last × (ends.first < ends.last) }
+    requires point_ends { PointEnds (all_corners (boxes_of boxes.numbers.now)) ends.first ends.last
+        × (ends.first < ends.last) }
     requires outer_room { OuterRoom (length boxes.numbers.now / 4) vertices.old keys.old list.old }
     ensures { PolygonKeys (all_corners (boxes_of boxes.entry.numbers.now)) vertices.new result }
 {

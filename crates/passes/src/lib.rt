@@ -30,7 +30,8 @@ fn pass_corners(
     plug: u32,
 ) -> usize
     requires { (k ≤ length boxes.numbers.now / 4) × Key a.key × Key b.key × Key plug }
-    ensures keeps { KeepsBoxes plug (Cone.Wedge a b) (CornerSet.One corner) (boxes_of boxes.entry.numbers.now) k result }
+    ensures keeps { KeepsBoxes plug (Cone.Wedge a b) (CornerSet.One corner)
+        (boxes_of boxes.entry.numbers.now) k result }
     ensures passes { Passes (point_of plug) (Cone.Wedge a b) (CornerSet.One corner)
         (boxes_of boxes.entry.numbers.now) k result }
 {
@@ -87,8 +88,8 @@ fn pass_line(boxes: Boxes, corner: Corner, k: usize, a: CornerKey, plug: u32) ->
     boxes.len()
 }
 
-// A place from k on, such that those corners of the boxes up to there leave the cone as it is. On a line, none is passed
-// where all four are looked at.
+// A place from k on, such that those corners of the boxes up to there leave the cone as it is. On a line, none is
+// passed where all four are looked at.
 pub fn pass_cone(boxes: Boxes, set: CornerSet, k: usize, cone: Cone, plug: u32) -> usize
     requires { (k ≤ length boxes.numbers.now / 4) × Key plug × Keyed cone }
     ensures keeps { KeepsBoxes plug cone set (boxes_of boxes.entry.numbers.now) k result }

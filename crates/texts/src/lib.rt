@@ -1,7 +1,7 @@
 // Text at the front of a lent buffer: bytes, numbers in base ten, and fields of a label and a number.
 //
 // Each step writes at the front of what it is lent, returns how much it wrote, and leaves the remainder as it was.
-// Digits are written here, as std writes them to a formatter or to a buffer of its own, from which they would be copied.
+// Digits are written here, as std writes them to a formatter or to a buffer of its own, from which one copies.
 #![tactic(auto)]
 
 ghost use Rattle.std.specs.Prelude.{◌+◌, ◌<◌, ◌≤◌, ◌++◌, length};
