@@ -85,8 +85,7 @@ fn outer_chains(
     keys: &mut [u32],
     list: &mut [u32],
 ) -> usize
-    requires point_ends { PointEnds (all_corners (boxes_of boxes.numbers.now)) ends.first ends.last
-        × (ends.first < ends.last) }
+    requires point_ends { PointEnds (all_corners (boxes_of boxes.numbers.now)) ends.first ends.last × (ends.first < ends.last) }
     requires outer_room { OuterRoom (length boxes.numbers.now / 4) vertices.old keys.old list.old }
     ensures { PolygonKeys (all_corners (boxes_of boxes.entry.numbers.now)) vertices.new result }
 {

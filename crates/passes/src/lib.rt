@@ -30,8 +30,7 @@ fn pass_corners(
     plug: u32,
 ) -> usize
     requires { (k ≤ length boxes.numbers.now / 4) × Key a.key × Key b.key × Key plug }
-    ensures keeps { KeepsBoxes plug (Cone.Wedge a b) (CornerSet.One corner)
-        (boxes_of boxes.entry.numbers.now) k result }
+    ensures keeps { KeepsBoxes plug (Cone.Wedge a b) (CornerSet.One corner) (boxes_of boxes.entry.numbers.now) k result }
     ensures passes { Passes (point_of plug) (Cone.Wedge a b) (CornerSet.One corner)
         (boxes_of boxes.entry.numbers.now) k result }
 {
