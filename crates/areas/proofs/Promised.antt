@@ -1,10 +1,8 @@
 -- The promises of the two calls, the fault first, follow from the equations that they answer by. Assumes nothing.
 use mathlib.Core.Path.{◌≡◌, refl, sym, ◌∙◌, ap, ap₂}
-use mathlib.Core.Bool.{cond}
 use mathlib.Core.List.{List, [], ◌∷◌, ◌++◌}
 use Prim.Native.Nat.{ℕ, suc, ◌-◌, ◌*◌, ◌≤◌}
 use native.Mathlib.Omega.{arith}
-use lib.Dec.{eqb}
 use lib.IntN.{ℤ, pos}
 use Rattle.std.proofs.Common.{Result, Ok, Err}
 use lib.ListN.{length, drop, length-append, length-replicate}
@@ -13,7 +11,8 @@ use Rattle.plane.specs.declared.Point.{Point}
 use Rattle.plane.specs.Polygons.{Distinct, Polygon}
 use Rattle.plane.proofs.Lists.{all_imp}
 use Rattle.rounds.specs.Boxes.{boxes_of, all_corners}
-use Rattle.rounds.specs.Refusals.{Fault, fault, number_of, area_fault}
+use Rattle.rounds.specs.Refusals.{Fault, fault, number_of, cause_meant, area_fault}
+use Rattle.rounds.proofs.Numbers.{cause_back}
 use Rattle.rounds.specs.Replies.{Reply, result, refused, reply_under, buffer_under}
 use Rattle.rounds.specs.declared.Cause.{Cause}
 use Rattle.outlines.proofs.Polygons.{all_length}
@@ -77,41 +76,12 @@ no_fault e g = let z : ◌≡◌ {A = ℕ} 0 1 = cc in absurd (omega arith)
 no_result : {A B : Type 0} {a : A} {n p : ℕ} → result a ≡ refused n p → B
 no_result e = let z : ◌≡◌ {A = ℕ} 0 1 = cc in absurd (omega arith)
 
--- the cause of a number
-abbrev cause_at : ℕ → Cause
-cause_at n =
-    cond (eqb n 1) Cause.ListLength
-    (cond (eqb n 2) Cause.NoBox
-    (cond (eqb n 3) Cause.TooManyBoxes
-    (cond (eqb n 4) Cause.EdgeBeyond
-    (cond (eqb n 5) Cause.EdgesReversed
-    (cond (eqb n 6) Cause.PlugBeyond
-    (cond (eqb n 7) Cause.BufferShort
-    (cond (eqb n 8) Cause.UnknownMark
-    (cond (eqb n 9) Cause.CutShort
-    (cond (eqb n 10) Cause.BoxAfterPlug
-    (cond (eqb n 11) Cause.ByteAfterEnd Cause.InputTooLong))))))))))
-
-cause_back : (c : Cause) → cause_at (number_of c) ≡ c
-cause_back Cause.ListLength = refl
-cause_back Cause.NoBox = refl
-cause_back Cause.TooManyBoxes = refl
-cause_back Cause.EdgeBeyond = refl
-cause_back Cause.EdgesReversed = refl
-cause_back Cause.PlugBeyond = refl
-cause_back Cause.BufferShort = refl
-cause_back Cause.UnknownMark = refl
-cause_back Cause.CutShort = refl
-cause_back Cause.BoxAfterPlug = refl
-cause_back Cause.ByteAfterEnd = refl
-cause_back Cause.InputTooLong = refl
-
 -- two refusals with the same numbers are by the same fault
 same_fault : {A : Type 0} (c d : Cause) (p q : ℕ) → ◌≡◌ {A = Reply A} (refused (number_of c) p) (refused (number_of d) q) → fault c p ≡ fault d q
 same_fault c d p q e =
     let n : number_of c ≡ number_of d = cc in
     let k : p ≡ q = cc in
-    ap₂ fault (sym (cause_back c) ∙ ap cause_at n ∙ cause_back d) k
+    ap₂ fault (sym (cause_back c) ∙ ap cause_meant n ∙ cause_back d) k
 
 same_result : {A : Type 0} (a b : A) → result a ≡ result b → a ≡ b
 same_result a b e = cc

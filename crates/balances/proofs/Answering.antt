@@ -21,7 +21,7 @@ use Rattle.plane.proofs.Lists.{all_at, all_both, all_map, all_unmap, all_append,
 use Rattle.plane.proofs.Twins.{signed_areaᴱ, pt, fromᴱ, alongᴱ}
 use Rattle.plane.proofs.Sides.{dot_productᴱ}
 use Rattle.plane.proofs.PolygonFacts.{apart_length}
-use Rattle.turns.specs.Keys.{Key, point_of}
+use Rattle.turns.specs.Keys.{point_of}
 use Rattle.turns.proofs.Coordinates.{key_in_span}
 use Rattle.turns.proofs.Bounds.{area_upto, dot_product_upto}
 use Rattle.rounds.specs.Boxes.{BoxInSpan, corners_of}
@@ -103,14 +103,14 @@ module _ (p : Point) where
   around_balances a b c h = record { says = λ bs qs l n. h.says bs qs (l.seen_a.named & l.seen_b.named & l.seen_c.named & none) }
 
   pub line_between : {bs : List Box} {qs : List Point} (a b : CornerKey) → AllOnLine bs qs p a b → BetweenCorners p a b
-  line_between a b l = record { key_a = l.seen_a.key; key_b = l.seen_b.key; straight = all_at l.in_line l.seen_b.listed; opposite = l.opposite }
+  line_between a b l = record { straight = all_at l.in_line l.seen_b.listed; opposite = l.opposite }
 
   pub half_between : {bs : List Box} {qs : List Point} (a b : CornerKey) → AllInHalf bs qs p a b → BetweenCorners p a b
-  half_between a b l = record { key_a = l.seen_a.key; key_b = l.seen_b.key; straight = l.straight; opposite = l.opposite }
+  half_between a b l = record { straight = l.straight; opposite = l.opposite }
 
   pub around_triangle : {bs : List Box} {qs : List Point} (a b c : CornerKey) → IsAround bs qs p a b c → InTriangle p a b c
   around_triangle a b c l =
-      record { key_a = l.seen_a.key; key_b = l.seen_b.key; key_c = l.seen_c.key; of_a_b = l.of_a_b; of_b_c = l.of_b_c; of_c_a = l.of_c_a }
+      record { of_a_b = l.of_a_b; of_b_c = l.of_b_c; of_c_a = l.of_c_a }
 
 -- ---- three entries
 
@@ -183,10 +183,10 @@ module _ (a b : CornerKey) (k : ℕ) (h : BetweenCorners (point_of k) a b) where
       cert 3 0 (λ p a b. # 0 ≺ dot_productᴱ p a a ⟹ dot_productᴱ p a b ≺ # 0 ⟹ # 0 ≼ dot_productᴱ a b p ∵ hyp 0 ⊞ hyp 1) tt (pt (point_of k)) (pt (corner_point a)) (pt (corner_point b))
       (apart_opposite (point_of k) (corner_point a) (corner_point b) h.opposite) h.opposite
 
-  -- each is weighed by how far the plug lies ahead of the other
-  between_among : Key k → (m n : ℕ) → pos m ≡ dot_product (corner_point b) (corner_point a) (point_of k) → pos n ≡ dot_product (corner_point a) (corner_point b) (point_of k)
+  -- each is weighed by how far the plug lies ahead of the other: no more than they are apart
+  between_among : (m n : ℕ) → pos m ≡ dot_product (corner_point b) (corner_point a) (point_of k) → pos n ≡ dot_product (corner_point a) (corner_point b) (point_of k)
       → BalanceAmong (point_of k) (a ∷ b ∷ []) (Some (entries (entry_of a m) (entry_of b n) (entry_of a 0)))
-  between_among hk m n hm hn = record { says = λ bs qs l. go l }
+  between_among m n hm hn = record { says = λ bs qs l. go l }
     where
       straight : signed_area (corner_point a) (corner_point b) (point_of k) ≡ pos 0
       straight = cert 3 0 (λ p a b. signed_areaᴱ p a b ≐ # 0 ⟹ signed_areaᴱ a b p ≐ # 0 ∵ eqn 0 (# 1)) tt (pt (point_of k)) (pt (corner_point a)) (pt (corner_point b)) h.straight
@@ -194,8 +194,18 @@ module _ (a b : CornerKey) (k : ℕ) (h : BetweenCorners (point_of k) a b) where
       go : {bs : List Box} → All (Named bs) (a ∷ b ∷ []) → EntriesHold bs (point_of k) (entry_of a m ∷ entry_of b n ∷ entry_of a 0 ∷ [])
       go (na & nb & none) =
           entries_hold (point_of k)
-          (record { named = na; high = (dot_product_upto (key_in_span h.key_b) (key_in_span h.key_a) (key_in_span hk)).high; is = hm })
-          (record { named = nb; high = (dot_product_upto (key_in_span h.key_a) (key_in_span h.key_b) (key_in_span hk)).high; is = hn })
+          (record {
+            named = na;
+            high = cert 3 0 (λ p a b. # 0 ≼ dot_productᴱ a b p ⟹ dot_productᴱ b a a ≼ # 2048000000 ⟹ dot_productᴱ b a p ≼ # 2048000000 ∵ hyp 0 ⊞ hyp 1) tt
+                (pt (point_of k)) (pt (corner_point a)) (pt (corner_point b)) past_a (dot_product_upto (key_in_span nb.key) (key_in_span na.key) (key_in_span na.key)).high;
+            is = hm;
+          })
+          (record {
+            named = nb;
+            high = cert 3 0 (λ p a b. # 0 ≼ dot_productᴱ b a p ⟹ dot_productᴱ a b b ≼ # 2048000000 ⟹ dot_productᴱ a b p ≼ # 2048000000 ∵ hyp 0 ⊞ hyp 1) tt
+                (pt (point_of k)) (pt (corner_point a)) (pt (corner_point b)) past_b (dot_product_upto (key_in_span na.key) (key_in_span nb.key) (key_in_span nb.key)).high;
+            is = hn;
+          })
           (record { named = na; high = record { le = tt }; is = refl })
           (cert 3 0 (λ p a b. # 0 ≺ dot_productᴱ p a a ⟹ # 0 ≺ dot_productᴱ p b b ⟹ dot_productᴱ p a b ≺ # 0 ⟹ # 0 ≺ dot_productᴱ b a p ⊕ dot_productᴱ a b p ⊕ # 0 ∵ hyp 0 ⊞ hyp 1 ⊞ hyp 2 ⊞ hyp 2) tt
           (pt (point_of k)) (pt (corner_point a)) (pt (corner_point b)) (apart_opposite (point_of k) (corner_point a) (corner_point b) h.opposite)
@@ -205,22 +215,37 @@ module _ (a b : CornerKey) (k : ℕ) (h : BetweenCorners (point_of k) a b) where
           (cert 3 0 (λ v w p. signed_areaᴱ v w p ≐ # 0 ⟹ dot_productᴱ w v p ⊗ (fromᴱ p v).1 ⊕ dot_productᴱ v w p ⊗ (fromᴱ p w).1 ⊕ # 0 ⊗ (fromᴱ p v).1 ≐ # 0 ∵ eqn 0 (⊝ (w.0 ⊖ v.0))) tt
           (pt (corner_point a)) (pt (corner_point b)) (pt (point_of k)) straight)
 
--- each is weighed by the area of the other two and the plug
-triangle_among : (a b c : CornerKey) (k : ℕ) → InTriangle (point_of k) a b c → Key k → (l m n : ℕ)
+-- each is weighed by the area of the other two and the plug: no more than that of all three
+triangle_among : (a b c : CornerKey) (k : ℕ) → InTriangle (point_of k) a b c → (l m n : ℕ)
     → pos l ≡ signed_area (point_of k) (corner_point b) (corner_point c) → pos m ≡ signed_area (point_of k) (corner_point c) (corner_point a) → pos n ≡ signed_area (point_of k) (corner_point a) (corner_point b)
     → BalanceAmong (point_of k) (a ∷ b ∷ c ∷ []) (Some (entries (entry_of a l) (entry_of b m) (entry_of c n)))
-triangle_among a b c k h hk l m n hl hm hn = record { says = λ bs qs s. go s }
+triangle_among a b c k h l m n hl hm hn = record { says = λ bs qs s. go s }
   where
     go : {bs : List Box} → All (Named bs) (a ∷ b ∷ c ∷ []) → EntriesHold bs (point_of k) (entry_of a l ∷ entry_of b m ∷ entry_of c n ∷ [])
     go (na & nb & nc & none) =
-        let sa = key_in_span h.key_a in
-        let sb = key_in_span h.key_b in
-        let sc = key_in_span h.key_c in
-        let sp = key_in_span hk in
+        let all = (area_upto (key_in_span na.key) (key_in_span nb.key) (key_in_span nc.key)).high in
         entries_hold (point_of k)
-        (record { named = na; high = (area_upto sp sb sc).high; is = hl })
-        (record { named = nb; high = (area_upto sp sc sa).high; is = hm })
-        (record { named = nc; high = (area_upto sp sa sb).high; is = hn })
+        (record {
+          named = na;
+          high = cert 4 0 (λ p a b c. # 0 ≼ signed_areaᴱ p a b ⟹ # 0 ≺ signed_areaᴱ p c a ⟹ signed_areaᴱ a b c ≼ # 2048000000
+              ⟹ signed_areaᴱ p b c ≼ # 2048000000 ∵ hyp 0 ⊞ hyp 1 ⊞ hyp 2) tt
+              (pt (point_of k)) (pt (corner_point a)) (pt (corner_point b)) (pt (corner_point c)) h.of_a_b h.of_c_a all;
+          is = hl;
+        })
+        (record {
+          named = nb;
+          high = cert 4 0 (λ p a b c. # 0 ≼ signed_areaᴱ p a b ⟹ # 0 ≺ signed_areaᴱ p b c ⟹ signed_areaᴱ a b c ≼ # 2048000000
+              ⟹ signed_areaᴱ p c a ≼ # 2048000000 ∵ hyp 0 ⊞ hyp 1 ⊞ hyp 2) tt
+              (pt (point_of k)) (pt (corner_point a)) (pt (corner_point b)) (pt (corner_point c)) h.of_a_b h.of_b_c all;
+          is = hm;
+        })
+        (record {
+          named = nc;
+          high = cert 4 0 (λ p a b c. # 0 ≺ signed_areaᴱ p b c ⟹ # 0 ≺ signed_areaᴱ p c a ⟹ signed_areaᴱ a b c ≼ # 2048000000
+              ⟹ signed_areaᴱ p a b ≼ # 2048000000 ∵ hyp 0 ⊞ hyp 1 ⊞ hyp 2) tt
+              (pt (point_of k)) (pt (corner_point a)) (pt (corner_point b)) (pt (corner_point c)) h.of_b_c h.of_c_a all;
+          is = hn;
+        })
         (cert 4 0 (λ p a b c. # 0 ≼ signed_areaᴱ p a b ⟹ # 0 ≺ signed_areaᴱ p b c ⟹ # 0 ≺ signed_areaᴱ p c a
         ⟹ # 0 ≺ signed_areaᴱ p b c ⊕ signed_areaᴱ p c a ⊕ signed_areaᴱ p a b ∵ hyp 0 ⊞ hyp 1 ⊞ hyp 2) tt
         (pt (point_of k)) (pt (corner_point a)) (pt (corner_point b)) (pt (corner_point c)) h.of_a_b h.of_b_c h.of_c_a)
@@ -256,15 +281,15 @@ positive : (z : ℤ) → pos 0 ≤ℤ z → pos (nat_abs z) ≡ z
 positive (pos n) h = refl
 positive (negsuc n) h = absurd h.le
 
-module _ (k : ℕ) (hk : Key k) where
+module _ (k : ℕ) where
   abbrev p : Point
   p = point_of k
 
   two_found : (a b : CornerKey) → BetweenCorners p a b → BalanceAmong p (a ∷ b ∷ []) (between_two k a b)
-  two_found a b h = between_among a b k h hk _ _ (positive _ (past_b a b k h)) (positive _ (past_a a b k h))
+  two_found a b h = between_among a b k h _ _ (positive _ (past_b a b k h)) (positive _ (past_a a b k h))
 
   three_found : (a b c : CornerKey) → InTriangle p a b c → BalanceAmong p (a ∷ b ∷ c ∷ []) (among_three k a b c)
-  three_found a b c h = triangle_among a b c k h hk _ _ _ (positive _ (<→≤ h.of_b_c)) (positive _ (<→≤ h.of_c_a)) (positive _ h.of_a_b)
+  three_found a b c h = triangle_among a b c k h _ _ _ (positive _ (<→≤ h.of_b_c)) (positive _ (<→≤ h.of_c_a)) (positive _ h.of_a_b)
 
   -- by the cone
   cone_found : (cone : Cone) → Known p cone → BalanceByCone p cone (balance_of_cone k cone)

@@ -4,7 +4,6 @@ use Rattle.plane.specs.Points.{signed_area, dot_product}
 use Rattle.plane.specs.declared.Point.{Point}
 use Rattle.plane.specs.Members.{All}
 use Rattle.plane.specs.Vectors.{from, Supported, Separated as StrictlyBehind}
-use Rattle.turns.specs.Keys.{Key}
 use Rattle.rounds.specs.Boxes.{all_corners}
 use Rattle.rounds.specs.Reasons.{EntriesHold}
 use Rattle.rounds.specs.declared.Box.{Box}
@@ -32,16 +31,11 @@ BalanceSays bs p r = BalanceAt bs (all_corners bs) p r
 
 -- p is between a and b, in line with them
 pub record BetweenCorners (p : Point) (a b : CornerKey) : Type 0 where
-  pub key_a : Key a.key
-  pub key_b : Key b.key
   pub straight : signed_area p (corner_point a) (corner_point b) ≡ pos 0
   pub opposite : dot_product p (corner_point a) (corner_point b) <ℤ pos 0
 
 -- p is in the triangle of a, b and c
 pub record InTriangle (p : Point) (a b c : CornerKey) : Type 0 where
-  pub key_a : Key a.key
-  pub key_b : Key b.key
-  pub key_c : Key c.key
   pub of_a_b : pos 0 ≤ℤ signed_area p (corner_point a) (corner_point b)
   pub of_b_c : pos 0 <ℤ signed_area p (corner_point b) (corner_point c)
   pub of_c_a : pos 0 <ℤ signed_area p (corner_point c) (corner_point a)

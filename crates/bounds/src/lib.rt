@@ -7,17 +7,11 @@ ghost use Rattle.rounds.specs.Refusals.{beyond, edge_beyond, edges_reversed};
 use plane::SPAN;
 use rounds::Box;
 
-// The least coordinate.
-const LEAST: i32 = -SPAN;
-
 // Whether a coordinate is beyond ±16,000.
 pub fn is_beyond(x: i32) -> bool
     ensures { result ≡ beyond x }
 {
-    if x < LEAST {
-        return true;
-    }
-    SPAN < x
+    x < -SPAN || SPAN < x
 }
 
 // Whether an edge of a box is beyond ±16,000.

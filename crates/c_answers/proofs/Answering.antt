@@ -1,12 +1,11 @@
 -- From an answer that keeps its promise to the struct that it is given as. Assumes nothing.
 use Rattle.std.specs.Prelude.{Err}
-use mathlib.Core.Path.{◌≡◌, refl, sym, ◌∙◌, ap, subst}
+use mathlib.Core.Path.{◌≡◌, sym, ◌∙◌, ap, subst}
 use borrow.Author.Tests.{ne_eqb}
 use Rattle.rounds.specs.Refusals.{number_of}
-use Rattle.rounds.specs.declared.Cause.{Cause}
 use Rattle.rounds.specs.declared.Refusal.{Refusal}
-use Rattle.rounds.proofs.Numbers.{number_positive}
-use Rattle.c_answers.specs.Answers.{Answered, cause_meant, unless_refused}
+use Rattle.rounds.proofs.Numbers.{number_positive, cause_back}
+use Rattle.c_answers.specs.Answers.{Answered, unless_refused}
 
 -- a struct that an answer is given as, where the struct means that answer
 pub answered : {A S : Type 0} (given : A → S) (meant : S → A) (Promise : A → Type 0) (a : A) (s : S)
@@ -14,21 +13,6 @@ pub answered : {A S : Type 0} (given : A → S) (meant : S → A) (Promise : A �
 answered given meant Promise a s promise back is =
     let same : meant s ≡ a = ap meant is ∙ back in
     record { promise = subst Promise (sym same) promise; numbers = is ∙ ap given (sym same) }
-
--- the number of a cause means that cause
-cause_back : (c : Cause) → cause_meant (number_of c) ≡ c
-cause_back Cause.ListLength = refl
-cause_back Cause.NoBox = refl
-cause_back Cause.TooManyBoxes = refl
-cause_back Cause.EdgeBeyond = refl
-cause_back Cause.EdgesReversed = refl
-cause_back Cause.PlugBeyond = refl
-cause_back Cause.BufferShort = refl
-cause_back Cause.UnknownMark = refl
-cause_back Cause.CutShort = refl
-cause_back Cause.BoxAfterPlug = refl
-cause_back Cause.ByteAfterEnd = refl
-cause_back Cause.InputTooLong = refl
 
 -- the number and the place of a refusal mean that refusal
 pub refused_back : {A : Type 0} (r : Refusal) (a : A) → unless_refused (number_of r.cause) r.place a ≡ Err r

@@ -10,19 +10,15 @@ use native.Mathlib.Numerals.{add-one}
 use lib.IntN.{pos}
 use lib.Signed.{◌≤ℤ◌, ◌<ℤ◌}
 use Rattle.integers.proofs.Order.{<→≤}
-use Rattle.integers.proofs.Rules.{zrules}
+use Rattle.std.proofs.lemmas.Int.{ints}
 use Rattle.orders.specs.Order.{get, Sorted, EachAmong}
-use Rattle.turns.specs.Keys.{Key, AllKeys}
+use Rattle.turns.specs.Keys.{IsKey, AllKeys}
 use Rattle.chains.specs.Chains.{turn, Chain, Popped}
 use Rattle.chains.proofs.Turning.{turn_same, turn_end, not_right_end, down, beyond, behind}
 
 -- numbers that are among keys are keys
 pub among : {q s : ℕ → ℕ} {m k : ℕ} → AllKeys q m → EachAmong s k q m → AllKeys s k
-among ks w = record { key = λ i h. let r = w.find i h in subst Key (sym r.2) (ks.key r.0 r.1) }
-
--- so the vertices of a chain are
-pub chain_keys : {q s : ℕ → ℕ} {m n k : ℕ} → AllKeys q n → m ≤ n → Chain q m s k → AllKeys s k
-chain_keys ks h ch = among ks (record { find = λ j l. let r = ch.from j l in (r.0, omega (arith, r.1), r.2) })
+among ks w = record { key = λ i h. let r = w.find i h in subst IsKey (sym r.2) (ks.key r.0 r.1) }
 
 -- the next key q m, which is greater than those before it, pushed after popping: s' is s below n, and that key at n
 module _ (q : ℕ → ℕ) (m : ℕ) (s : ℕ → ℕ) (k n : ℕ) (srt : Sorted q 0 (suc m)) (fresh : (i : ℕ) → i < m → q i < q m) (ch : Chain q m s k)
@@ -36,7 +32,7 @@ module _ (q : ℕ → ℕ) (m : ℕ) (s : ℕ → ℕ) (k n : ℕ) (srt : Sorted
 
   -- (a) r is right of each side that is left, d sides before the last
   under : (d j : ℕ) → suc (suc j) + d ≡ n → turn (s j) (s (suc j)) (q m) ≤ℤ pos 0
-  under zero j h = let b = pop.bend j (omega arith) in omega zrules
+  under zero j h = let b = pop.bend j (omega arith) in omega (arith, ints)
   under (suc d) j h =
       let l : suc (suc (suc j)) ≤ k = omega (arith, pop.most) in
       down (ch.rising j (omega arith)) (ch.rising (suc j) (omega arith)) (before (suc j) (omega arith))
@@ -153,7 +149,7 @@ module _ (q : ℕ → ℕ) (m : ℕ) (s : ℕ → ℕ) (k n : ℕ) (some : 1 ≤
       more j e l =
           let a = pop.gone j (omega arith) (omega arith) in
           let b : turn (s j) (s (suc j)) (q m) <ℤ pos 0 = subst (λ x. turn (s j) (s (suc j)) x <ℤ pos 0) (top (suc (suc j)) e) (ch.bends j (omega arith)) in
-          omega zrules
+          omega (arith, ints)
 
       go : Dec (n < k) → Dec (suc n < k) → suc n ≡ k
       go (yes a) (yes b) = absurd (more (k - 3) (omega (arith, pop.some)) b)

@@ -7,7 +7,6 @@ use native.Mathlib.Omega.{arith}
 use lib.ListN.{length, get_or-append}
 use lib.Seq.{get_or-append_seam}
 use Rattle.orders.specs.Order.{get, Sorted}
-use Rattle.turns.specs.Keys.{Key, AllKeys}
 use Rattle.chains.specs.Chains.{Amid, framed}
 
 -- where the i-th of m framed numbers stands
@@ -30,14 +29,6 @@ module _ (first : ℕ) (l : List ℕ) (last : ℕ) where
 
   pub framed_last : framed first l last (suc (length l)) ≡ last
   framed_last = get_or-append_seam l last [] 0
-
-  pub framed_keys : Key first → AllKeys (get l) (length l) → Key last → AllKeys (framed first l last) (length l + 2)
-  framed_keys f ks g = record { key = λ i h. go i (place_of (length l) i h) }
-    where
-      go : (i : ℕ) → Place (length l) i → Key (framed first l last i)
-      go i (at_first e) = rw e f
-      go i (amid j o e) = rw (e, framed_at j o) (ks.key j o)
-      go i (at_last e) = rw (e, framed_last) g
 
   module _ (h : first < last) (a : Amid (get l) (length l) first last) where
     pub framed_above : (i : ℕ) → 0 < i → i < length l + 2 → first < framed first l last i

@@ -1,16 +1,18 @@
 // The upper chain of keys in order, by Andrew's monotone chain. A key stands for a point of the span, and the order of
 // keys is that of points (crate turns).
+// What is written is counted, not given back as a slice: that would keep the buffer lent, whose rest is scratch.
 #![tactic(auto)]
 
 ghost use Rattle.std.specs.Prelude.{◌+◌, ◌≤◌, ◌<◌, length};
-ghost use Rattle.turns.specs.Keys.{Key, AllKeys};
 ghost use Rattle.orders.specs.Order.{get, Sorted};
 ghost use Rattle.chains.specs.Chains.{Chain, Popped, Amid, framed};
 
+use extremes::Ends;
+use turns::Key;
+
 // How many of the first k vertices are left, where those go at which the way to r would not turn right.
-fn pop(stack: &[u32], k: usize, r: u32) -> usize
-    requires le_k { (1 ≤ k) × (k ≤ length stack.now) }
-    requires all_keys { AllKeys (get stack.now) k × Key r }
+fn pop(stack: &[Key], k: usize, r: Key) -> usize
+    requires { (1 ≤ k) × (k ≤ length stack.now) }
     ensures { Popped (get stack.now) k r result }
 {
     for n in (1..k).rev() {
@@ -23,24 +25,23 @@ fn pop(stack: &[u32], k: usize, r: u32) -> usize
     1
 }
 
-// The upper chain of first, keys in order, and last: its vertices, in order, are the first of stack. All keys are
-// strictly between first and last.
-pub fn upper_chain(first: u32, keys: &[u32], last: u32, stack: &mut [u32]) -> usize
-    requires keys_in_bounds { (length keys.now + 2 ≤ length stack.old) × (first < last) }
+// The upper chain of keys in order between two ends: its vertices, in order, are the first of stack. All keys are
+// strictly between the ends.
+pub fn upper_chain(ends: &Ends, keys: &[Key], stack: &mut [Key]) -> usize
+    requires keys_in_bounds { (length keys.now + 2 ≤ length stack.old) × (ends.now.first < ends.now.last) }
     requires sorted { Sorted (get keys.now) 0 (length keys.now)
-        × Amid (get keys.now) (length keys.now) first last }
-    requires key { Key first × AllKeys (get keys.now) (length keys.now) × Key last }
-    ensures { Chain (framed first keys.now last) (length keys.now + 2)
+        × Amid (get keys.now) (length keys.now) ends.now.first ends.now.last }
+    ensures { Chain (framed ends.now.first keys.now ends.now.last) (length keys.now + 2)
         (get stack.new) result }
 {
-    stack[0] = first;
+    stack[0] = ends.first;
     let mut k: usize = 1;
     for &r in keys {
         let n = pop(stack, k, r);
         stack[n] = r;
         k = n + 1;
     }
-    let n = pop(stack, k, last);
-    stack[n] = last;
+    let n = pop(stack, k, ends.last);
+    stack[n] = ends.last;
     n + 1
 }

@@ -15,7 +15,6 @@ use Rattle.plane.proofs.Twins.{signed_areaᴱ, pt}
 use Rattle.plane.proofs.Sides.{dot_productᴱ}
 use Rattle.plane.proofs.PolygonFacts.{apart_length}
 use Rattle.plane.proofs.Winding.{winding_within}
-use Rattle.turns.specs.Keys.{Key}
 use Rattle.rounds.specs.declared.Box.{Box}
 use Rattle.cones.specs.Cones.{corner_point, Named, Seen, AllOnLine, AllInWedge, IsAround, Widened}
 use Rattle.cones.specs.declared.CornerKey.{CornerKey}
@@ -25,7 +24,7 @@ use Rattle.cones.proofs.Turns.{back_pos, back_zero, back_ahead, cycle_neg, cycle
 -- ---- more points
 
 pub seen_more : {bs : List Box} {qs : List Point} {v : CornerKey} (more : List Point) → Seen bs qs v → Seen bs (qs ++ more) v
-seen_more {qs = qs} more s = record { key = s.key; named = s.named; listed = in_left qs more s.listed }
+seen_more {qs = qs} more s = record { named = s.named; listed = in_left qs more s.listed }
 
 -- what supports more points supports the fewer
 pub supported_fewer : (p : Point) (qs more : List Point) → Supported (map (from 1 p) (qs ++ more)) → Supported (map (from 1 p) qs)
@@ -61,7 +60,7 @@ pub line_more : {bs : List Box} {qs : List Point} (p q : Point) (a b : CornerKey
 line_more p q a b h r =
     record { seen_a = seen_more (q ∷ []) r.seen_a; seen_b = seen_more (q ∷ []) r.seen_b; opposite = r.opposite; in_line = all_append r.in_line (h & none) }
 
-module _ (p : Point) (k : CornerKey) (hk : Key k.key) where
+module _ (p : Point) (k : CornerKey) where
   abbrev v : Point
   v = corner_point k
 
@@ -72,7 +71,7 @@ module _ (p : Point) (k : CornerKey) (hk : Key k.key) where
   grow h x = all_append h (x & none)
 
   here_too : {bs : List Box} (qs : List Point) → Named bs k → Seen bs (more qs) k
-  here_too qs n = record { key = hk; named = n; listed = in_right qs (v ∷ []) (here refl) }
+  here_too qs n = record { named = n; listed = in_right qs (v ∷ []) (here refl) }
 
   old : {bs : List Box} {qs : List Point} {i : CornerKey} → Seen bs qs i → Seen bs (more qs) i
   old = seen_more (v ∷ [])

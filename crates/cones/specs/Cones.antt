@@ -5,7 +5,7 @@ use Rattle.plane.specs.Points.{signed_area, dot_product}
 use Rattle.plane.specs.declared.Point.{Point}
 use Rattle.plane.specs.Members.{All, ◌∈◌}
 use Rattle.plane.specs.Vectors.{from, Supported}
-use Rattle.turns.specs.Keys.{Key, point_of}
+use Rattle.turns.specs.Keys.{IsKey, point_of}
 use Rattle.rounds.specs.Reasons.{corner_at}
 use Rattle.rounds.specs.declared.Box.{Box}
 use Rattle.rounds.specs.declared.Corner.{Corner}
@@ -25,19 +25,18 @@ entry_of v w = record { number = v.number; corner = v.corner; weight = w }
 
 -- the number and the corner name are those of a box of the list, whose corner has the key
 pub record Named (bs : List Box) (v : CornerKey) : Type 0 where
+  pub key : IsKey v.key
   pub least : 1 ≤ v.number
   pub most : v.number ≤ length bs
   pub is : (w : ℕ) → corner_at 1 bs (entry_of v w) ≡ corner_point v
 
 -- that one corner of the box at place k, from 0
 pub record CornerOf (bs : List Box) (corner : Corner) (k : ℕ) (v : CornerKey) : Type 0 where
-  pub key : Key v.key
   pub named : Named bs v
   pub is : corner_point v ≡ nth_corner corner bs k
 
 -- a corner of a box of the list that is one of the points
 pub record Seen (bs : List Box) (qs : List Point) (v : CornerKey) : Type 0 where
-  pub key : Key v.key
   pub named : Named bs v
   pub listed : corner_point v ∈ qs
 

@@ -4,18 +4,19 @@
 
 ghost use Rattle.std.specs.Prelude.{◌≡◌, pos};
 ghost use Rattle.plane.specs.Points.{signed_area};
-ghost use Rattle.turns.specs.Keys.{Key, point_of};
+ghost use Rattle.turns.specs.Keys.{point_of};
 ghost use Rattle.turns.specs.declared.Turn.TheVariants.{Straight};
 ghost use Rattle.cones.specs.Cones.{Widened};
-ghost use Rattle.cones.specs.Wider.{Keyed, are_opposite, ray_by, cone_with};
+ghost use Rattle.cones.specs.Wider.{are_opposite, ray_by, cone_with};
 
 use rounds::Corner;
-use turns::Turn;
+use turns::{Key, Turn};
 
 // A corner of a box of the list: its key, the box's number from 1, and the corner's name.
 #[derive(Clone, Copy)]
 pub struct CornerKey {
-    pub key: u32,
+    pub key: Key,
+    // Not a usize: with one, a verdict on 16 boxes took half as long again.
     pub number: u32,
     pub corner: Corner,
 }
@@ -35,8 +36,8 @@ pub enum Cone {
 }
 
 // The cone where every point so far is the plug.
-fn widen_nothing(v: CornerKey, plug: u32) -> Cone
-    requires { Key v.key × Key plug }
+#[tactic(auto, using(crate::proofs::Wider::found_says))]
+fn widen_nothing(v: CornerKey, plug: Key) -> Cone
     ensures exact { result ≡ cone_with plug Cone.Nothing v }
     ensures widened { Widened (point_of plug) Cone.Nothing v result }
 {
@@ -47,8 +48,8 @@ fn widen_nothing(v: CornerKey, plug: u32) -> Cone
 }
 
 // The cone of a ray and of one more point in line with it.
-fn widen_in_line(a: CornerKey, v: CornerKey, plug: u32) -> Cone
-    requires { Key a.key × Key v.key × Key plug }
+#[tactic(auto, using(crate::proofs::Wider::in_line_says))]
+fn widen_in_line(a: CornerKey, v: CornerKey, plug: Key) -> Cone
     ensures exact { result ≡ ray_by Straight (are_opposite plug a v) a v }
     ensures widened { signed_area (point_of plug) (point_of a.key) (point_of v.key) ≡ pos 0
         → Widened (point_of plug) (Cone.Ray a) v result }
@@ -61,8 +62,7 @@ fn widen_in_line(a: CornerKey, v: CornerKey, plug: u32) -> Cone
 
 // The cone of a ray and of one more point.
 #[tactic(auto, using(crate::proofs::Wider::found_says))]
-fn widen_ray(a: CornerKey, v: CornerKey, plug: u32) -> Cone
-    requires { Key a.key × Key v.key × Key plug }
+fn widen_ray(a: CornerKey, v: CornerKey, plug: Key) -> Cone
     ensures exact { result ≡ cone_with plug (Cone.Ray a) v }
     ensures widened { Widened (point_of plug) (Cone.Ray a) v result }
 {
@@ -73,10 +73,9 @@ fn widen_ray(a: CornerKey, v: CornerKey, plug: u32) -> Cone
     }
 }
 
-// The cone of a line and of one more point.
+// The cone of a line and of one more point. Not one function with `widen_ray`: no arm is the same.
 #[tactic(auto, using(crate::proofs::Wider::found_says))]
-fn widen_line(a: CornerKey, b: CornerKey, v: CornerKey, plug: u32) -> Cone
-    requires { Key a.key × Key v.key × Key plug }
+fn widen_line(a: CornerKey, b: CornerKey, v: CornerKey, plug: Key) -> Cone
     ensures exact { result ≡ cone_with plug (Cone.Line a b) v }
     ensures widened { Widened (point_of plug) (Cone.Line a b) v result }
 {
@@ -90,8 +89,7 @@ fn widen_line(a: CornerKey, b: CornerKey, v: CornerKey, plug: u32) -> Cone
 // The cone of a wedge and of one more point: where it is right of the one ray or left of the other, it takes its place.
 // Nine arms: with arms joined by `|`, or one match of both turns, the proof of `exact` did not close.
 #[tactic(auto, using(crate::proofs::Wider::found_says))]
-fn widen_wedge(a: CornerKey, b: CornerKey, v: CornerKey, plug: u32) -> Cone
-    requires { Key a.key × Key b.key × Key v.key × Key plug }
+fn widen_wedge(a: CornerKey, b: CornerKey, v: CornerKey, plug: Key) -> Cone
     ensures exact { result ≡ cone_with plug (Cone.Wedge a b) v }
     ensures widened { Widened (point_of plug) (Cone.Wedge a b) v result }
 {
@@ -118,8 +116,7 @@ fn widen_wedge(a: CornerKey, b: CornerKey, v: CornerKey, plug: u32) -> Cone
 
 // The cone of a half-plane and of one more point.
 #[tactic(auto, using(crate::proofs::Wider::found_says))]
-fn widen_half(a: CornerKey, b: CornerKey, v: CornerKey, plug: u32) -> Cone
-    requires { Key a.key × Key v.key × Key plug }
+fn widen_half(a: CornerKey, b: CornerKey, v: CornerKey, plug: Key) -> Cone
     ensures exact { result ≡ cone_with plug (Cone.Half a b) v }
     ensures widened { Widened (point_of plug) (Cone.Half a b) v result }
 {
@@ -131,8 +128,7 @@ fn widen_half(a: CornerKey, b: CornerKey, v: CornerKey, plug: u32) -> Cone
 
 // The cone of the points so far and of one more.
 #[tactic(auto, using(crate::proofs::Wider::found_says))]
-pub fn widen(cone: Cone, v: CornerKey, plug: u32) -> Cone
-    requires { Key v.key × Key plug × Keyed cone }
+pub fn widen(cone: Cone, v: CornerKey, plug: Key) -> Cone
     ensures exact { result ≡ cone_with plug cone v }
     ensures widened { Widened (point_of plug) cone v result }
 {

@@ -13,7 +13,7 @@ use Rattle.integers.proofs.Order.{≤_trans}
 use Rattle.plane.specs.Points.{point}
 use Rattle.plane.specs.declared.Point.{Point}
 use Rattle.plane.proofs.Lists.{index_of_all, map_at}
-use Rattle.turns.specs.Keys.{Key, KeyOf, AllKeys, point_of}
+use Rattle.turns.specs.Keys.{IsKey, KeyOf, point_of}
 use Rattle.orders.specs.Order.{get}
 use Rattle.rounds.specs.Boxes.{Ordered, BoxList, boxes_of, box_at, corner_of, corners_of, all_corners}
 use Rattle.rounds.specs.declared.Corner.{Corner}
@@ -28,7 +28,7 @@ use Rattle.corner_lists.proofs.Filling.{two_length}
 use Rattle.corner_lists.proofs.Boxes.{corner_at_lem, at_corner, Widest}
 use Rattle.corner_lists.proofs.Ends.{HoldsKeys}
 
-module _ (f : ℕ → ℕ) (g : Point → Point) (sees : (x : ℕ) → Key x → point_of (f x) ≡ g (point_of x)) (keeps : (x : ℕ) → Key x → Key (f x))
+module _ (f : ℕ → ℕ) (g : Point → Point) (sees : (x : ℕ) → IsKey x → point_of (f x) ≡ g (point_of x))
     (a b : Corner) (wide : Widest g a b) (l : List ℤ) (bl : BoxList l) (left right : List ℕ) (lk : HoldsKeys f l a left) (rk : HoldsKeys f l b right) where
   -- a key of the lists is one of the corners'
   module _ (c : Corner) (ks : List ℕ) (hk : HoldsKeys f l c ks) where
@@ -37,9 +37,6 @@ module _ (f : ℕ → ℕ) (g : Point → Point) (sees : (x : ℕ) → Key x →
         let o : k < length l / 4 = omega (arith, hk.long) in
         let r = hk.at k o in
         (r.0, record { key = r.1.key; listed = rw r.1.is (at_corner l c k o) }, r.2)
-
-    pub held_keys : AllKeys (get ks) (length ks)
-    held_keys = record { key = λ k h. let r = held k h in subst Key (sym r.2) (keeps r.0 r.1.key) }
 
     pub held_ends : {first last : ℕ} → ((x : ℕ) → KeyIn (all_corners (boxes_of l)) x → first ≤ f x) → ((x : ℕ) → KeyIn (all_corners (boxes_of l)) x → f x ≤ last) → FromTo ks first last
     held_ends least most =
@@ -51,15 +48,11 @@ module _ (f : ℕ → ℕ) (g : Point → Point) (sees : (x : ℕ) → Key x →
     held_point : (k : ℕ) → k < length l / 4 → point_of (get ks k) ≡ g (corner_of c (box_at l (k * 4)))
     held_point k h = let r = hk.at k h in ap point_of r.2 ∙ sees r.0 r.1.key ∙ ap g r.1.is
 
-  pub upper_input : {first last : ℕ} {list keys scratch : List ℕ} → Key first → Key last → ((x : ℕ) → KeyIn (all_corners (boxes_of l)) x → first ≤ f x)
+  pub upper_input : {first last : ℕ} {list keys scratch : List ℕ} → ((x : ℕ) → KeyIn (all_corners (boxes_of l)) x → first ≤ f x)
       → ((x : ℕ) → KeyIn (all_corners (boxes_of l)) x → f x ≤ last) → ChainRoom (length l / 4) list keys scratch → UpperInput left right first last list scratch
-  upper_input fk lastk least most room =
+  upper_input least most room =
       record {
         some = omega (arith, lk.long, bl.some);
-        first_key = fk;
-        last_key = lastk;
-        left_keys = held_keys a left lk;
-        right_keys = held_keys b right rk;
         left_ends = held_ends a left lk least most;
         right_ends = held_ends b right rk least most;
         out_room = omega (arith, lk.long, rk.long, room.in_list);
@@ -165,9 +158,6 @@ module _ (l : List ℤ) (a b : Corner) (n : ℕ) (is : n ≡ length l / 4) (ks :
 
   pub both_taken : length (take (n + n) ks) ≡ n + n
   both_taken = length-take-le (n + n) ks room
-
-  pub both_keys : AllKeys (get (take (n + n) ks)) (length (take (n + n) ks))
-  both_keys = record { key = λ i h. (key_at_lem i (omega (arith, both_taken))).key }
 
   -- and what f gives to them
   module _ (f : ℕ → ℕ) (ms : List ℕ) (long : length ms ≡ n + n) (same : (i : ℕ) → i < n + n → get ms i ≡ f (get (take (n + n) ks) i)) where

@@ -11,7 +11,7 @@ use Rattle.plane.specs.Points.{point}
 use Rattle.plane.specs.declared.Point.{Point}
 use Rattle.plane.specs.Members.{All}
 use Rattle.plane.proofs.Lists.{all_by_index, all_append, map_at}
-use Rattle.turns.specs.Keys.{Key, KeyOf, point_of}
+use Rattle.turns.specs.Keys.{IsKey, KeyOf, point_of}
 use Rattle.rounds.specs.Boxes.{boxes_of, corners_of}
 use Rattle.rounds.specs.declared.Corner.{Corner}
 use Rattle.corners.proofs.Places.{corners_length}
@@ -43,7 +43,7 @@ filled_keys qs ks l f =
     at : (i : ℕ) → i < length qs → KeyOf (get_or qs i (point (pos 0) (pos 0))) (get_or (take (length qs) ks) i 0)
     at i h = rw (get_or-take (length qs) ks i 0 h) (f.key i h)
 
-    key : (i : ℕ) → i < length (take (length qs) ks) → Key (get_or (take (length qs) ks) i 0)
+    key : (i : ℕ) → i < length (take (length qs) ks) → IsKey (get_or (take (length qs) ks) i 0)
     key i h = (at i (omega (arith, taken))).key
 
     same_length : length (map point_of (take (length qs) ks)) ≡ length qs
@@ -62,7 +62,7 @@ pub keys_append : (qs rs : List Point) (xs ys zs : List ℕ) (n : ℕ) → lengt
     → KeysOf (qs ++ rs) (take n xs ++ (ys ++ zs))
 keys_append qs rs xs ys zs n e h k f g =
     record {
-      keys = subst (All Key) (sym front) (all_append f.keys g.keys);
+      keys = subst (All IsKey) (sym front) (all_append f.keys g.keys);
       points = ap (map point_of) front ∙ map-append point_of (take (length qs) xs) (take (length rs) ys) ∙ ap₂ ◌++◌ f.points g.points;
     }
   where
@@ -73,6 +73,10 @@ keys_append qs rs xs ys zs n e h k f g =
     front =
         let l : length (qs ++ rs) ≡ length (take n xs) + length rs = simp length-append (omega (arith, n_taken)) in
         rw (l, take-append-add (take n xs) (ys ++ zs) (length rs), take-append-le (length rs) ys zs k, e)
+
+-- more may stand behind them
+pub keys_before : (qs : List Point) (xs ys : List ℕ) → length qs ≤ length xs → KeysOf qs xs → KeysOf qs (xs ++ ys)
+keys_before qs xs ys h f = let e = take-append-le (length qs) xs ys h in record { keys = rw e f.keys; points = rw e f.points }
 
 -- the part from n on, as the callee that was lent it sees it
 pub part_length : (n : ℕ) (xs : List ℕ) → n ≤ length xs → length (take (length xs - n) (drop n xs)) ≡ length xs - n

@@ -2,7 +2,7 @@
 use Rattle.std.specs.Prelude.{◌≡◌, List, ℕ, ◌+◌, ◌≤◌, ◌<◌, length}
 use Rattle.plane.specs.declared.Point.{Point}
 use Rattle.plane.specs.Members.{◌∈◌}
-use Rattle.turns.specs.Keys.{Key, point_of}
+use Rattle.turns.specs.Keys.{IsKey, point_of}
 use Rattle.turns.specs.Reflection.{reflected}
 use Rattle.orders.specs.Order.{get, Sorted}
 use Rattle.chains.specs.Chains.{Amid, Under}
@@ -13,7 +13,7 @@ pub record Reflects (old new : List ℕ) (n : ℕ) : Type 0 where
 
 -- x is the key of one of the points
 pub record KeyIn (qs : List Point) (x : ℕ) : Type 0 where
-  pub key : Key x
+  pub key : IsKey x
   pub listed : point_of x ∈ qs
 
 -- the least key of points, and the greatest

@@ -3,9 +3,7 @@
 #![tactic(auto)]
 
 ghost use Rattle.std.specs.Prelude.{◌++◌, ◌+◌, ◌/◌, ◌≤◌, length};
-ghost use Rattle.turns.specs.Keys.{AllKeys};
 ghost use Rattle.turns.specs.Reflection.{reflected};
-ghost use Rattle.orders.specs.Order.{get};
 ghost use Rattle.rounds.specs.Boxes.{boxes_of, corners_of, all_corners};
 ghost use Rattle.corner_lists.specs.KeyLists.{KeysOf};
 ghost use Rattle.corner_lists.specs.ChainKeys.{Reflects, PointEnds, ChainRoom, ChainKeys};
@@ -13,21 +11,22 @@ ghost use Rattle.corner_lists.specs.ChainKeys.{Reflects, PointEnds, ChainRoom, C
 use boxes::Boxes;
 use extremes::Ends;
 use rounds::Corner;
+use turns::Key;
 
 // Writes the keys of that one corner of every box to the front of keys.
 #[inline(always)]
-pub fn put_corner_keys(boxes: Boxes, corner: Corner, keys: &mut [u32])
+pub fn put_corner_keys(boxes: Boxes, corner: Corner, keys: &mut [Key])
     requires { length boxes.numbers.now / 4 ≤ length keys.old }
     ensures { KeysOf (corners_of corner (boxes_of boxes.entry.numbers.now)) keys.new }
 {
-    for k in 0..boxes.len() {
-        keys[k] = corners::corner_key(boxes, k, corner);
+    for (k, key) in keys[..boxes.len()].iter_mut().enumerate() {
+        *key = corners::corner_key(boxes, k, corner);
     }
 }
 
 // Writes the keys of one corner of every box to the front of keys, and those of another behind them.
 #[inline(always)]
-pub fn put_two_corners(boxes: Boxes, first: Corner, second: Corner, keys: &mut [u32])
+pub fn put_two_corners(boxes: Boxes, first: Corner, second: Corner, keys: &mut [Key])
     requires { length boxes.numbers.now / 4 + length boxes.numbers.now / 4 ≤ length keys.old }
     ensures { KeysOf
         (corners_of first (boxes_of boxes.entry.numbers.now) ++ corners_of second (boxes_of boxes.entry.numbers.now))
@@ -41,7 +40,7 @@ pub fn put_two_corners(boxes: Boxes, first: Corner, second: Corner, keys: &mut [
 // The least key of all corners, which is that of a south-western one, and the greatest, that of a north-eastern one.
 // What keys holds is lost.
 // PointEnds stays a clause: as a ghost field of the ends and their boxes it would be truncated, and opened at each use.
-pub fn find_corner_ends(boxes: Boxes, keys: &mut [u32]) -> Ends
+pub fn find_corner_ends(boxes: Boxes, keys: &mut [Key]) -> Ends
     requires { length boxes.numbers.now / 4 ≤ length keys.old }
     ensures { PointEnds (all_corners (boxes_of boxes.entry.numbers.now)) result.first result.last }
 {
@@ -57,12 +56,11 @@ pub fn find_corner_ends(boxes: Boxes, keys: &mut [u32]) -> Ends
 }
 
 // Reflects keys through the datum.
-fn reflect_keys(keys: &mut [u32])
-    requires { AllKeys (get keys.old) (length keys.old) }
+fn reflect_keys(keys: &mut [Key])
     ensures { Reflects keys.old keys.new (length keys.old) }
 {
     for key in keys.iter_mut() {
-        *key = turns::reflected(*key);
+        *key = key.reflected();
     }
 }
 
@@ -70,46 +68,40 @@ fn reflect_keys(keys: &mut [u32])
 // and the north-eastern corners. What keys and scratch hold is lost.
 pub fn upper_keys(
     boxes: Boxes,
-    ends: Ends,
-    list: &mut [u32],
-    keys: &mut [u32],
-    scratch: &mut [u32],
+    ends: &Ends,
+    list: &mut [Key],
+    keys: &mut [Key],
+    scratch: &mut [Key],
 ) -> usize
-    requires point_ends { PointEnds (all_corners (boxes_of boxes.numbers.now)) ends.first ends.last }
+    requires point_ends { PointEnds (all_corners (boxes_of boxes.numbers.now)) ends.now.first ends.now.last }
     requires chain_room { ChainRoom (length boxes.numbers.now / 4) list.old keys.old scratch.old }
     ensures { ChainKeys (λ k. k) (all_corners (boxes_of boxes.entry.numbers.now)) (length boxes.entry.numbers.now / 4)
-        ends.first ends.last list.new result }
+        ends.now.first ends.now.last list.new result }
 {
     let n = boxes.len();
-    let end = n + n;
     put_two_corners(boxes, Corner::NorthWest, Corner::NorthEast, keys);
-    quarters::upper_list(&keys[..end], n, ends.first, ends.last, list, scratch)
+    let (before, behind) = keys[..n + n].split_at(n);
+    quarters::upper_list(before, behind, ends, list, scratch)
 }
 
 // The same for the lower chain: the keys, reflected, of the south-eastern and the south-western corners.
 // One function for both chains would have to be told whether to reflect the keys, and so is no plainer.
 pub fn lower_keys(
     boxes: Boxes,
-    ends: Ends,
-    list: &mut [u32],
-    keys: &mut [u32],
-    scratch: &mut [u32],
+    ends: &Ends,
+    list: &mut [Key],
+    keys: &mut [Key],
+    scratch: &mut [Key],
 ) -> usize
-    requires point_ends { PointEnds (all_corners (boxes_of boxes.numbers.now)) ends.first ends.last }
+    requires point_ends { PointEnds (all_corners (boxes_of boxes.numbers.now)) ends.now.first ends.now.last }
     requires chain_room { ChainRoom (length boxes.numbers.now / 4) list.old keys.old scratch.old }
     ensures { ChainKeys reflected (all_corners (boxes_of boxes.entry.numbers.now)) (length boxes.entry.numbers.now / 4)
-        (reflected ends.last) (reflected ends.first) list.new result }
+        (reflected ends.now.last) (reflected ends.now.first) list.new result }
 {
     let n = boxes.len();
-    let end = n + n;
     put_two_corners(boxes, Corner::SouthEast, Corner::SouthWest, keys);
-    reflect_keys(&mut keys[..end]);
-    quarters::upper_list(
-        &keys[..end],
-        n,
-        turns::reflected(ends.last),
-        turns::reflected(ends.first),
-        list,
-        scratch,
-    )
+    let both = &mut keys[..n + n];
+    reflect_keys(both);
+    let (before, behind) = both.split_at(n);
+    quarters::upper_list(before, behind, &ends.reflected(), list, scratch)
 }

@@ -22,7 +22,7 @@ result_inj e = cc
 -- a reply that is a result is under no fault, and is what is worked out
 under_none : (f : Fault) (v w : Word) → reply_under f v ≡ result w → (f ≡ Fault.none) × (v ≡ w)
 under_none Fault.none v w e = (refl, result_inj e)
-under_none (Fault.fault c p) v w e = absurd (let z : ◌≡◌ {A = ℕ} 0 1 = cc in omega arith)
+under_none (Fault.fault c p) v w e = absurd (cc)
 
 -- accepted boxes are ordered
 pub ordered_boxes : (l : List ℤ) (p : Point) → verdict_fault l p ≡ Fault.none → All Ordered (boxes_of l)

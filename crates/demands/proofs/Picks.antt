@@ -47,15 +47,15 @@ word_holds bs p os = record { exactly = λ other. (λ e. (exactly bs p os other)
 module _ (bs : List Box) (p : Point) (os : All Ordered bs) where
   is_inside : (v : Result Verdict Refusal) → verdict_reply v ≡ result Inside → v ≡ Ok Verdict'.Inside
   is_inside (Ok Verdict'.Inside) i = refl
-  is_inside (Ok Verdict'.Outside) i = absurd (let z : ◌≡◌ {A = ℕ} 0 1 = cc in omega arith)
-  is_inside (Ok (Verdict'.Undecided r)) i = absurd (let z : ◌≡◌ {A = ℕ} 0 1 = cc in omega arith)
-  is_inside (Err r) i = absurd (let z : ◌≡◌ {A = ℕ} 0 1 = cc in omega arith)
+  is_inside (Ok Verdict'.Outside) i = absurd (cc)
+  is_inside (Ok (Verdict'.Undecided r)) i = absurd (cc)
+  is_inside (Err r) i = absurd (cc)
 
   is_outside : (v : Result Verdict Refusal) → verdict_reply v ≡ result Outside → v ≡ Ok Verdict'.Outside
-  is_outside (Ok Verdict'.Inside) i = absurd (let z : ◌≡◌ {A = ℕ} 0 1 = cc in omega arith)
+  is_outside (Ok Verdict'.Inside) i = absurd (cc)
   is_outside (Ok Verdict'.Outside) i = refl
-  is_outside (Ok (Verdict'.Undecided r)) i = absurd (let z : ◌≡◌ {A = ℕ} 0 1 = cc in omega arith)
-  is_outside (Err r) i = absurd (let z : ◌≡◌ {A = ℕ} 0 1 = cc in omega arith)
+  is_outside (Ok (Verdict'.Undecided r)) i = absurd (cc)
+  is_outside (Err r) i = absurd (cc)
 
   module _ (v : Result Verdict Refusal) (reply : verdict_reply v ≡ result (word_of bs p)) (reasons : (r : Reasons) → v ≡ Ok (Verdict'.Undecided r) → Reasoned bs p r) where
     -- the word that a case of the verdict replies
@@ -80,7 +80,7 @@ module _ (bs : List Box) (p : Point) (os : All Ordered bs) where
         undecided (Ok Verdict'.Inside) i o q f = absurd (i refl)
         undecided (Ok Verdict'.Outside) i o q f = absurd (o refl)
         undecided (Ok (Verdict'.Undecided r)) i o q f = (r, refl, f r refl)
-        undecided (Err r) i o q f = absurd (let z : ◌≡◌ {A = ℕ} 0 1 = cc in omega arith)
+        undecided (Err r) i o q f = absurd (cc)
 
 -- the reply on accepted boxes and a plug
 given : (l : List ℤ) (p : Point) → NoFault l p → verdict_on l p ≡ result (word_of (boxes_of l) p)
@@ -94,7 +94,7 @@ of_word l p reply h e = go reply (h ∙ given l p e)
   where
     go : (reply : Result Word Refusal) → reply_of reply ≡ result (word_of (boxes_of l) p) → (w : Word) × (reply ≡ Ok w) × WordHolds (boxes_of l) p w
     go (Ok w) i = (word_of (boxes_of l) p, ap Ok (result_inj i), word_holds (boxes_of l) p (ordered_boxes l p e))
-    go (Err r) i = absurd (let z : ◌≡◌ {A = ℕ} 0 1 = cc in omega arith)
+    go (Err r) i = absurd (cc)
 
 -- ---- records
 

@@ -54,7 +54,7 @@ was_written {boxes} {plugs} {entry} {n} w =
 -- a reading by its reply
 reading_is : (reading : Result Counts Refusal) {counts : Counts} → reply_of reading ≡ result counts → reading ≡ Ok counts
 reading_is (Ok c) e = cc
-reading_is (Err r) e = let z : ◌≡◌ {A = ℕ} 0 1 = cc in absurd (omega arith)
+reading_is (Err r) e = absurd (cc)
 
 written_read : {boxes plugs : List ℤ} {entry exit : List ℕ} {n : ℕ} {boxesEntry plugsEntry boxesExit plugsExit : List ℤ} {reading : Result Counts Refusal}
     → RoundWritten boxes plugs entry (Ok n) exit → RoundRead (take n exit) boxesEntry plugsEntry reading boxesExit plugsExit

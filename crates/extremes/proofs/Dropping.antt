@@ -5,7 +5,8 @@ use Rattle.std.proofs.Common.{sym, refl, ◌∙◌, subst, inl, inr, ⊎_elim, a
 use Rattle.std.specs.Int.{from_bool}
 use native.Mathlib.Decide.{dec_lt}
 use Rattle.orders.specs.Order.{get, EachAmong}
-use Rattle.turns.specs.Keys.{east_part, north_part, AllKeys}
+use Rattle.turns.specs.Keys.{IsKey, east_part, north_part}
+use Rattle.turns.specs.Sums.{sum_of, difference_of}
 use Rattle.extremes.specs.declared.Far.{Far}
 use Rattle.extremes.specs.declared.Rectangle.{Rectangle}
 use Rattle.extremes.specs.Inner.{Among, Lesser, Greater, FarKeys, Bounds, InRectangle, Inner, Kept, Outer}
@@ -78,13 +79,27 @@ module _ (old new : List ℕ) (i n d : ℕ) (P : ℕ → Type 0) (h : i < length
 
 -- ---- numbers of four keys of a list
 
--- one stays, or the number of another key takes its place
-pub taken : (f : ℕ → ℕ) (l : List ℕ) {a b x : ℕ} (i : ℕ) → i < length l → Among (λ j. f (get l j)) (length l) a → x ≡ f (get l i) → (b ≡ a) ⊎ (b ≡ x) → Among (λ j. f (get l j)) (length l) b
-taken f l i h k q e = ⊎_elim (λ z. (k.0, k.1, z ∙ k.2)) (λ z. (i, h, z ∙ q)) e
+-- one stays, or another takes its place
+pub taken : (P : ℕ → Type 0) {a b x : ℕ} → P a → P x → (b ≡ a) ⊎ (b ≡ x) → P b
+taken P p q e = ⊎_elim (λ z. subst P (sym z) p) (λ z. subst P (sym z) q) e
+
+-- x is what f gives to the key at an index of a list
+pub record CodeIn (f : ℕ → ℕ) (l : List ℕ) (x : ℕ) : Type 0 where
+  pub index : ℕ
+  pub in_list : index < length l
+  pub key : IsKey (get l index)
+  pub value : x ≡ f (get l index)
+
+-- the sums of two keys of a list, and the differences of two
+pub record Codes (l : List ℕ) (ne nw sw se : ℕ) : Type 0 where
+  pub north_east : CodeIn sum_of l ne
+  pub north_west : CodeIn difference_of l nw
+  pub south_west : CodeIn sum_of l sw
+  pub south_east : CodeIn difference_of l se
 
 -- ---- keys in a rectangle beyond whose corners four keys lie
 
-module _ {old new : List ℕ} {n : ℕ} {far : Far} {box : Rectangle} (c : FarKeys (λ x. x) (λ x. x) old far) (b : Bounds far box) (k : Kept old new n (λ x. InRectangle x box)) where
+module _ {old new : List ℕ} {n : ℕ} {far : Far} {box : Rectangle} (c : FarKeys old far) (b : Bounds far box) (k : Kept old new n (λ x. InRectangle x box)) where
   -- the four are kept
   corner : (x : ℕ) → Among (get old) (length old) x → (InRectangle x box → ⊥) → Among (get new) n x
   corner x m f = ⊎_elim (λ r. (r.0, r.1, m.2 ∙ r.2)) (λ i. absurd (f (subst (λ y. InRectangle y box) (sym m.2) i))) (k.rest m.0 m.1)
@@ -116,11 +131,6 @@ module _ {old new : List ℕ} {n : ℕ} {far : Far} {box : Rectangle} (c : FarKe
 
   pub outer : Outer old new n
   outer = record { few = k.few; kept = k.kept; rest = λ i l. ⊎_elim inl (λ x. inr (around (get old i) x)) (k.rest i l) }
-
--- the first of a list of keys are keys
-pub front_all : (l : List ℕ) (s : ℕ) → s ≤ length l → AllKeys (get l) (length l) → AllKeys (get (take s l)) (length (take s l))
-front_all l s h ks =
-    record { key = λ i o. let e = length-take-le s l h in rw (get_or-take s l i 0 (omega arith)) (ks.key i (omega arith)) }
 
 -- nothing is dropped
 pub undropped : (l : List ℕ) → Outer l l (length l)

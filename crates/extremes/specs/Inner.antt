@@ -29,12 +29,12 @@ pub record Greater (a b r : ℕ) : Type 0 where
   pub second : b ≤ r
   pub either : (r ≡ a) ⊎ (r ≡ b)
 
--- what sum gives to two keys of a list, and difference to two
-pub record FarKeys (sum difference : ℕ → ℕ) (l : List ℕ) (far : Far) : Type 0 where
-  pub north_east : Among (λ j. sum (get l j)) (length l) far.ne
-  pub north_west : Among (λ j. difference (get l j)) (length l) far.nw
-  pub south_west : Among (λ j. sum (get l j)) (length l) far.sw
-  pub south_east : Among (λ j. difference (get l j)) (length l) far.se
+-- four keys of a list
+pub record FarKeys (l : List ℕ) (far : Far) : Type 0 where
+  pub north_east : Among (get l) (length l) far.ne
+  pub north_west : Among (get l) (length l) far.nw
+  pub south_west : Among (get l) (length l) far.sw
+  pub south_east : Among (get l) (length l) far.se
 
 -- a rectangle that does not reach as far as four keys, each beyond one of its corners
 pub record Bounds (far : Far) (r : Rectangle) : Type 0 where

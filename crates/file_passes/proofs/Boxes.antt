@@ -70,4 +70,4 @@ module _ {file : List ℕ} {boxes₀ : List ℤ} {at edge : ℕ} {boxes : List �
       }
 
   pub no_fault : {A : Type 0} {x : Refusal} → RecordFound file at false (Err x) → A
-  no_fault f = let e = (rw (rest_is f) at i).well_formed in let z : ◌≡◌ {A = ℕ} 0 1 = cc in absurd (omega arith)
+  no_fault f = let e = (rw (rest_is f) at i).well_formed in absurd (cc)

@@ -80,10 +80,10 @@ pub record WellFormed (file : List ℕ) (counts : Counts) : Type 0 where
 -- a reading under a fault, by its case
 read_none : (f : Fault) {a b : Counts} → Ok a ≡ refused_or f b → (f ≡ none) × (a ≡ b)
 read_none none e = (refl, (cc))
-read_none (fault c p) e = let z : ◌≡◌ {A = ℕ} 0 1 = cc in absurd (omega arith)
+read_none (fault c p) e = absurd (cc)
 
 refused_fault : (f : Fault) (b : Counts) {r : Refusal} → Err r ≡ refused_or f b → f ≡ refusal_fault r
-refused_fault none b e = let z : ◌≡◌ {A = ℕ} 0 1 = cc in absurd (omega arith)
+refused_fault none b e = absurd (cc)
 refused_fault (fault c p) b e = cc
 
 pub well_formed : (file : List ℕ) {counts : Counts} → Ok counts ≡ judgement file → WellFormed file counts

@@ -77,7 +77,7 @@ module _ {file : List ℕ} {from count : ℕ} {plugs₀ : List ℤ} (r : PlugRoo
         absurd (omega (arith, r.enough, ap length i.is, length-append i.taken (scan file at true).plugs, i.so_many, ap (λ held. length held.plugs) (rest_is f)))
 
     pub no_fault : {A : Type 0} {x : Refusal} → RecordFound file at true (Err x) → A
-    no_fault f = let e = (rw (rest_is f) at i).well_formed in let z : ◌≡◌ {A = ℕ} 0 1 = cc in absurd (omega arith)
+    no_fault f = let e = (rw (rest_is f) at i).well_formed in absurd (cc)
 
     -- so many
     pub plugs_all : at ≤ length file → k ≡ count → PlugsRead file from count plugs₀ at plugs

@@ -1,6 +1,6 @@
 // The passes of the reader over a round file (docs/SCOPE.md 5.3, 6.4), each by `file_records::next_record`: one judges
 // the form and counts; one reads the boxes of a well-formed file; one reads some of its plugs, from an offset on.
-// A pass is a loop, since records are of several lengths: an offset leads from one to the next, no index counts them.
+// A pass is a loop, since records are of several lengths: an offset leads from one to the next.
 #![tactic(auto)]
 
 ghost use Rattle.std.specs.Prelude.{◌≡◌, length};
@@ -57,7 +57,7 @@ pub fn read_boxes(file: &[u8], boxes: &mut [i32]) -> usize
 }
 
 // Reads so many plugs of a well-formed file, from an offset on, to the front of a buffer, and returns the offset
-// behind them.
+// behind them. (The count stands beside the slice, which is of numbers: cut to them, it would be halved again here.)
 pub fn read_plugs(file: &[u8], from: usize, count: usize, plugs: &mut [i32]) -> usize
     requires { PlugRoom file.now from count (length plugs.old) }
     ensures { PlugsRead file.now from count plugs.old result plugs.new }

@@ -41,7 +41,7 @@ fn write_boxes(boxes: Boxes, file: &mut [u8])
     }
 }
 
-// Writes every plug, from an offset on.
+// Writes every plug, from an offset on. Beside `write_boxes`: one function would take the record's writer as a closure.
 fn write_plugs(plugs: &[i32], file: &mut [u8], at: usize)
     requires { at + plug_length * (length plugs.now / 2) ≤ length file.old }
     ensures { file.new ≡

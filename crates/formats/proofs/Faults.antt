@@ -12,7 +12,8 @@ use mir.Val.{SFits}
 use Rattle.integers.proofs.Machine.{fits}
 use Rattle.plane.specs.declared.Point.{Point}
 use Rattle.plane.specs.Members.{All, ◌&◌}
-use Rattle.rounds.specs.Boxes.{BoxInSpan, boxes_of, plugs_of}
+use Rattle.plane.proofs.Lists.{all_imp}
+use Rattle.rounds.specs.Boxes.{boxes_of, plugs_of}
 use Rattle.rounds.specs.declared.Box.{Box}
 use Rattle.rounds.specs.declared.Cause.TheVariants as Cause
 use Rattle.rounds.specs.Refusals.{none, when, box_list_fault, plug_fault, each_plug_fault, plug_list_fault}
@@ -30,11 +31,8 @@ pub record PlugFits (p : Point) : Type 0 where
   pub north : SFits w32 p.north
 
 pub fit_boxes : (l : List ℤ) → box_list_fault l ≡ none → All BoxFits (boxes_of l)
-fit_boxes l e = each (accepted l e).in_span
-  where
-    each : {bs : List Box} → All BoxInSpan bs → All BoxFits bs
-    each All.none = All.none
-    each (s & f) = record { west = fits w32 tt s.west; south = fits w32 tt s.south; east = fits w32 tt s.east; north = fits w32 tt s.north } & each f
+fit_boxes l e =
+    all_imp (λ b s. record { west = fits w32 tt s.west; south = fits w32 tt s.south; east = fits w32 tt s.east; north = fits w32 tt s.north }) (accepted l e).in_span
 
 -- a plug list with no fault is whole
 in_turn : (l : List ℤ) → plug_list_fault l ≡ none

@@ -1,10 +1,8 @@
 -- Replies: a result stands behind no fault. Assumes nothing.
 use mathlib.Core.Path.{◌≡◌, refl}
-use Prim.Native.Nat.{ℕ}
-use native.Mathlib.Omega.{arith}
 use Rattle.rounds.specs.Refusals.{Fault, none, fault}
 use Rattle.rounds.specs.Replies.{result, reply_under}
 
 pub result_none : {A : Type 0} (f : Fault) {a b : A} → result a ≡ reply_under f b → (f ≡ none) × (a ≡ b)
 result_none none e = (refl, (cc))
-result_none (fault c p) e = let z : ◌≡◌ {A = ℕ} 0 1 = cc in absurd (omega arith)
+result_none (fault c p) e = absurd (cc)

@@ -31,7 +31,7 @@ ends_within box_kind file at plugged h e =
 ends_within plug_kind file at plugged h e = (omega arith, reaches file (next_at plug_kind file at) at e)
 ends_within note_kind file at plugged h e = (omega arith, reaches file (next_at note_kind file at) at e)
 ends_within end_kind file at plugged h e = (omega arith, h)
-ends_within unknown_kind file at plugged h e = let z : ◌≡◌ {A = ℕ} 0 1 = cc in absurd (omega arith)
+ends_within unknown_kind file at plugged h e = absurd (cc)
 
 -- the same of what stands at an offset
 pub clean : (file : List ℕ) (at : ℕ) (plugged : Bool) {k : Kind} → form_fault file at plugged ≡ none → kind_at file at ≡ k

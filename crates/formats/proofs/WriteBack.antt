@@ -18,7 +18,7 @@ use Rattle.formats.specs.Format.{box_record, plug_record, end_record, file_of, b
 use Rattle.formats.specs.Format.{Kind, box_kind, plug_kind, note_kind, end_kind, unknown_kind, kind_at, next_at}
 use Rattle.formats.specs.Content.{Content, kind_fault, form_fault, and_then, plugged_by, read_from, content_of}
 use Rattle.rounds.proofs.Accepted.{when_none}
-use Rattle.formats.proofs.Marks.{marked}
+use Rattle.formats.proofs.Marks.{box_marked, plug_marked, end_marked}
 use Rattle.formats.proofs.Scan.{clean, ends_within}
 
 -- ---- numbers and records from their bytes
@@ -63,7 +63,7 @@ module _ (file : List ℕ) (bytes : AllBytes file) where
     box_first : kind_at file at ≡ box_kind → at + box_length ≤ length file → drop at file ≡ box_record (file_box_at file (at + mark_length)) ++ drop (at + box_length) file
     unfolding box_record mark_bytes file_box_at number_bytes four_bytes
     box_first k h =
-        mark_first at box_mark (rw k at (marked (mark_at file at))) (omega arith)
+        mark_first at box_mark (box_marked _ k) (omega arith)
         ∙ ap (λ l. mark_bytes box_mark ++ l)
         (number_first (at + mark_length) (at + mark_length + 4) (omega arith) (omega arith)
         ∙ ap (λ l. number_bytes (number_at file (at + mark_length)) ++ l)
@@ -76,7 +76,7 @@ module _ (file : List ℕ) (bytes : AllBytes file) where
     plug_first : kind_at file at ≡ plug_kind → at + plug_length ≤ length file → drop at file ≡ plug_record (file_plug_at file (at + mark_length)) ++ drop (at + plug_length) file
     unfolding plug_record mark_bytes file_plug_at number_bytes four_bytes
     plug_first k h =
-        mark_first at plug_mark (rw k at (marked (mark_at file at))) (omega arith)
+        mark_first at plug_mark (plug_marked _ k) (omega arith)
         ∙ ap (λ l. mark_bytes plug_mark ++ l)
         (number_first (at + mark_length) (at + mark_length + 4) (omega arith) (omega arith)
         ∙ ap (λ l. number_bytes (number_at file (at + mark_length)) ++ l) (number_first (at + mark_length + 4) (at + plug_length) (omega arith) (omega arith)))
@@ -84,7 +84,7 @@ module _ (file : List ℕ) (bytes : AllBytes file) where
     end_first : kind_at file at ≡ end_kind → at + mark_length ≤ length file → length file ≤ at + mark_length → drop at file ≡ end_record
     unfolding end_record mark_bytes
     end_first k h l =
-        mark_first at end_mark (rw k at (marked (mark_at file at))) h
+        mark_first at end_mark (end_marked _ k) h
         ∙ ap (λ l. mark_bytes end_mark ++ l) (drop_of_length-le file l)
 
 -- ---- a whole file
@@ -94,20 +94,17 @@ record SameBytes (file : List ℕ) (at : ℕ) (plugged : Bool) (held : Content) 
   is : drop at file ≡ file_of held.boxes held.plugs
   no_box_lem : plugged ≡ true → held.boxes ≡ []
 
-impossible : {A : Type 0} {c : Cause} {p : ℕ} → fault c p ≡ none → A
-impossible e = let z : ◌≡◌ {A = ℕ} 0 1 = cc in absurd (omega arith)
-
 -- a box with no fault does not stand after a plug
 not_plugged : {A : Type 0} (file : List ℕ) (at : ℕ) (plugged : Bool) → kind_fault box_kind file at plugged ≡ none → plugged ≡ true → A
 unfolding kind_fault
-not_plugged file at true e t = impossible e
-not_plugged file at false e t = let z : ◌≡◌ {A = ℕ} 0 1 = cc in absurd (omega arith)
+not_plugged file at true e t = absurd (cc)
+not_plugged file at false e t = absurd (cc)
 
 same_then : (f : Fault) (k : Kind) (file : List ℕ) (at : ℕ) (plugged : Bool) (rest : Content) → AllBytes file → form_fault file at plugged ≡ f → kind_at file at ≡ k
     → (rest.fault ≡ none → rest.notes ≡ 0 → SameBytes file (next_at k file at) (plugged_by k plugged) rest)
     → (and_then f k file at rest).fault ≡ none → (and_then f k file at rest).notes ≡ 0 → SameBytes file at plugged (and_then f k file at rest)
 unfolding next_at file_of flat_map kind_fault
-same_then (fault c p) k file at plugged rest b ef ek ih e z = impossible e
+same_then (fault c p) k file at plugged rest b ef ek ih e z = absurd (cc)
 same_then none box_kind file at plugged rest b ef ek ih e z =
     let c = clean file at plugged ef ek in
     let w = ends_within box_kind file at plugged c.0 c.1 in
@@ -137,12 +134,12 @@ same_then none note_kind file at plugged rest b ef ek ih e z = absurd (omega ari
 same_then none end_kind file at plugged rest b ef ek ih e z =
     let c = clean file at plugged ef ek in
     record { is = end_first file b at ek c.0 (ltb-false _ _ (when_none (ltb (at + mark_length) (length file)) Cause.ByteAfterEnd (at + mark_length) c.1)); no_box_lem = λ t. refl }
-same_then none unknown_kind file at plugged rest b ef ek ih e z = impossible (clean file at plugged ef ek).1
+same_then none unknown_kind file at plugged rest b ef ek ih e z = let c = (clean file at plugged ef ek).1 in absurd (cc)
 
 same_from : (records : ℕ) (file : List ℕ) (at : ℕ) (plugged : Bool) → AllBytes file → (read_from records file at plugged).fault ≡ none → (read_from records file at plugged).notes ≡ 0
     → SameBytes file at plugged (read_from records file at plugged)
 unfolding read_from
-same_from zero file at plugged b e z = impossible e
+same_from zero file at plugged b e z = absurd (cc)
 same_from (suc n) file at plugged b e z =
     let k = kind_at file at in
     same_then (form_fault file at plugged) k file at plugged (read_from n file (next_at k file at) (plugged_by k plugged)) b refl refl

@@ -11,7 +11,7 @@ use lib.IntN.{pos}
 use lib.Signed.{◌≤ℤ◌, ◌<ℤ◌}
 use Rattle.orders.specs.Order.{Sorted, EachAmong}
 use Rattle.orders.proofs.Pigeons.{within_few}
-use Rattle.turns.specs.Keys.{Key, AllKeys}
+use Rattle.turns.specs.Keys.{IsKey, AllKeys}
 use Rattle.turns.specs.Reflection.{reflected}
 use Rattle.turns.proofs.Reflection.{reflected_less}
 use Rattle.chains.specs.Chains.{turn, Chain}
@@ -113,8 +113,8 @@ module _ (q : ℕ → ℕ) (m : ℕ) (ups : Sorted q 0 m) (ks : AllKeys q m) (en
       let o : r.0 < m = r.1 in
       (m - suc r.0, omega arith, ap reflected r.2 ∙ mirror_back q m f ks mi r.0 (m - suc r.0) (omega arith))
 
-  l_key : (i : ℕ) → i ≤ b → Key (l i)
-  l_key i h = let r = cl.from i (omega arith) in subst Key (sym r.2) ((mirror_keys q m f ks mi).key r.0 r.1)
+  l_key : (i : ℕ) → i ≤ b → IsKey (l i)
+  l_key i h = let r = cl.from i (omega arith) in subst IsKey (sym r.2) ((mirror_keys q m f ks mi).key r.0 r.1)
 
   d_falls : (i j : ℕ) → i < j → j ≤ b → reflected (l j) < reflected (l i)
   d_falls i j h k = reflected_less (l_key j k) (rises f m l (suc b) cl i j h (omega arith))

@@ -9,17 +9,17 @@ use lib.IntN.{pos}
 use lib.Signed.{◌≤ℤ◌, ◌<ℤ◌}
 use lib.ListN.{length, take}
 use lib.Seq.{length-take-le, get_or-take}
-use Rattle.integers.proofs.Rules.{zrules}
+use Rattle.std.proofs.lemmas.Int.{ints}
 use Rattle.orders.specs.Order.{get, Sorted}
-use Rattle.turns.specs.Keys.{Key, AllKeys}
+use Rattle.turns.specs.Keys.{IsKey, AllKeys}
 use Rattle.turns.specs.Reflection.{reflected}
-use Rattle.turns.proofs.Reflection.{reflected_key, reflected_less}
+use Rattle.turns.proofs.Reflection.{reflected_less}
 use Rattle.chains.specs.Chains.{turn, Amid, Under}
 use Rattle.extremes.specs.Inner.{Among, EndsOf}
 use Rattle.halves.specs.Halves.{Part, Halves, Reordered, PartsReordered}
 use Rattle.chains.proofs.Turning.{turn_first, turn_last}
 use Rattle.chains.proofs.Covering.{under_first, under_last, under_among, under_between}
-use Rattle.halves.proofs.Halving.{Left, Right, NotLeft, NotRight, first_key, last_key}
+use Rattle.halves.proofs.Halving.{Left, Right, NotLeft, NotRight}
 
 -- ---- a part, in order, as a callee sees it that is lent the first of a list
 
@@ -48,12 +48,21 @@ module _ (old new : List ℕ) (u : ℕ) (r : Reordered old new u) (room : u ≤ 
           let w = r.all.find a.0 a.1 in
           (w.0, omega (arith, w.1), a.2 ∙ w.2 ∙ sym (get_or-take u new w.0 0 w.1))
 
+-- ---- the ends of keys are keys
+
+module _ {keys : List ℕ} {first last : ℕ} (ends : EndsOf keys first last) (ks : AllKeys (get keys) (length keys)) where
+  pub first_key : IsKey first
+  first_key = let r = ends.first_in in subst IsKey (sym r.2) (ks.key r.0 r.1)
+
+  pub last_key : IsKey last
+  last_key = let r = ends.last_in in subst IsKey (sym r.2) (ks.key r.0 r.1)
+
 -- ---- keys off the line are strictly between its ends
 
 module _ {keys : List ℕ} {first last : ℕ} (ends : EndsOf keys first last) where
   off : (k : ℕ) → turn first last k ≡ pos 0 → Left first last k ⊎ Right first last k → ⊥
-  off k z (inl a) = let b : pos 0 <ℤ pos 0 = rw z at a in omega zrules
-  off k z (inr a) = let b : pos 0 <ℤ pos 0 = rw z at a in omega zrules
+  off k z (inl a) = let b : pos 0 <ℤ pos 0 = rw z at a in omega (arith, ints)
+  off k z (inr a) = let b : pos 0 <ℤ pos 0 = rw z at a in omega (arith, ints)
 
   after_first : (i : ℕ) → i < length keys → Left first last (get keys i) ⊎ Right first last (get keys i) → first < get keys i
   after_first i h t = go (dec_lt first (get keys i))
@@ -79,9 +88,6 @@ module _ {keys : List ℕ} {first last : ℕ} (ends : EndsOf keys first last) wh
             below = λ j h. let r = p.from j h in rw r.2 (before_last r.0 r.1 (inl r.3));
           }
 
-      pub upper_keys : AllKeys out u
-      upper_keys = record { key = λ j h. let r = p.from j h in subst Key (sym r.2) (ks.key r.0 r.1) }
-
     -- the part that is right of it, reflected
     module _ {out : ℕ → ℕ} {v : ℕ} (p : Part (get keys) (length keys) reflected out v (Right first last) (NotRight first last)) where
       pub lower_amid : Amid out v (reflected last) (reflected first)
@@ -90,9 +96,6 @@ module _ {keys : List ℕ} {first last : ℕ} (ends : EndsOf keys first last) wh
             above = λ j h. let r = p.from j h in rw r.2 (reflected_less (last_key ends ks) (before_last r.0 r.1 (inr r.3)));
             below = λ j h. let r = p.from j h in rw r.2 (reflected_less (ks.key r.0 r.1) (after_first r.0 r.1 (inr r.3)));
           }
-
-      pub lower_keys : AllKeys out v
-      lower_keys = record { key = λ j h. let r = p.from j h in subst Key (sym r.2) (reflected_key (ks.key r.0 r.1)) }
 
 -- ---- both parts, each in order: upper, and lower, which is reflected
 
@@ -104,13 +107,13 @@ pub record Parted (keys : List ℕ) (first last : ℕ) (upper lower : List ℕ) 
   pub upper_sorted : Sorted (get upper) 0 (length upper)
   pub lower_sorted : Sorted (get lower) 0 (length lower)
 
-pub parted : {keys up down up' down' : List ℕ} {first last u v : ℕ} → EndsOf keys first last → AllKeys (get keys) (length keys)
+pub parted : {keys up down up' down' : List ℕ} {first last u v : ℕ} → EndsOf keys first last
     → Halves keys first last up down u v → PartsReordered up up' down down' u v → u ≤ length up' → v ≤ length down'
     → Parted keys first last (take u up') (take v down')
-parted {keys} {up} {down} {up'} {down'} {first} {last} {u} {v} ends ks hs ro h k =
+parted {keys} {up} {down} {up'} {down'} {first} {last} {u} {v} ends hs ro h k =
     record {
       ends = ends;
-      all = ks;
+      all = hs.all_keys;
       above = part_front up up' u ro.upper h hs.above;
       below = part_front down down' v ro.lower k hs.below;
       upper_sorted = sorted_front up up' u ro.upper h;
@@ -122,9 +125,6 @@ module _ {keys : List ℕ} {first last : ℕ} {upper lower : List ℕ} (p : Part
   pub upper_input : Sorted (get upper) 0 (length upper) × Amid (get upper) (length upper) first last
   upper_input = (p.upper_sorted, upper_amid p.ends p.all p.above)
 
-  pub upper_all : Key first × AllKeys (get upper) (length upper) × Key last
-  upper_all = (first_key p.ends p.all, upper_keys p.ends p.all p.above, last_key p.ends p.all)
-
   -- of the ends, reflected
   module _ {f l : ℕ} (fe : f ≡ reflected first) (le : l ≡ reflected last) where
     pub lower_less : first < last → l < f
@@ -132,9 +132,6 @@ module _ {keys : List ℕ} {first last : ℕ} {upper lower : List ℕ} (p : Part
 
     pub lower_input : Sorted (get lower) 0 (length lower) × Amid (get lower) (length lower) l f
     lower_input = (p.lower_sorted, rw (fe, le) (lower_amid p.ends p.all p.below))
-
-    pub lower_all : Key l × AllKeys (get lower) (length lower) × Key f
-    lower_all = (rw le (reflected_key (last_key p.ends p.all)), lower_keys p.ends p.all p.below, rw fe (reflected_key (first_key p.ends p.all)))
 
 -- ---- no key is above the part, which is those left of the line from the first to the last
 

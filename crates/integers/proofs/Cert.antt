@@ -12,16 +12,18 @@
 -- In `s ∵ c ÷ m` it must be m · (b − a), with m a certificate of more than 0: so a positive factor is cancelled.
 -- Assumes nothing.
 use mathlib.Core.Path.{◌≡◌, refl, sym, ◌∙◌, ap, ap₂, subst}
-use mathlib.Core.Bool.{Bool, true, false}
+use mathlib.Core.Bool.{Bool, true, false, ◌&&◌, ◌||◌}
+use mathlib.Core.Logic.{⊎_elim}
 use mathlib.Core.List.{List, [], ◌∷◌}
 use Prim.Native.Nat.{ℕ, zero, suc}
 use native.Mathlib.Omega.{arith}
 use lib.Dec.{T, lt→ltb}
 use lib.IntN.{ℤ, pos, ◌+ℤ◌, ◌*ℤ◌, ◌-ℤ◌, *ℤ-zero}
 use lib.Signed.{◌≤ℤ◌, ◌<ℤ◌, ≤ℤ_refl, <ℤ_irrefl}
+use mir.Facts.{and_yes, or_yes}
 use Rattle.integers.proofs.Expr.{E, ◌⊕◌, ◌⊖◌, ◌⊗◌, #◌, den, St, ◌≼◌, ◌≺◌, ◌≐◌, ◌⟹◌, ◌&◌, bot, Holds, Fun, bind, All, all}
 use Rattle.integers.proofs.Lin.{lin}
-use Rattle.integers.proofs.Ring.{Null, null_is, same_is, and, and_l, and_r}
+use Rattle.integers.proofs.Ring.{Null, null_is, same_is}
 use Rattle.integers.proofs.Order.{≤→nn, <→pos, <→≤, ≡→≤, add_nn, add_pos_nn, add_nn_pos, mul_nn, mul_pos, sq_nn, pos_nn, nn_of_mul, pos_of_mul, zero_of_mul, nn→≤, pos→<}
 
 infixl 76 ◌⊞◌
@@ -72,18 +74,14 @@ gap₀ (s ⟹ t) = # 0
 gap₀ (s & t) = # 0
 gap₀ bot = # 0
 
-abbrev pub or : Bool → Bool → Bool
-or true c = true
-or false c = c
-
 -- c is more than 0
 abbrev pub more : List St → C → Bool
 more H (hyp i) = strict (pick H i)
 more H (num zero) = false
 more H (num (suc n)) = true
 more H (sq e) = false
-more H (c ⊞ d) = or (more H c) (more H d)
-more H (c ⊠ d) = and (more H c) (more H d)
+more H (c ⊞ d) = more H c || more H d
+more H (c ⊠ d) = more H c && more H d
 more H (less c) = false
 more H (eqn i e) = false
 
@@ -93,8 +91,8 @@ flat (hyp i) = false
 flat (num zero) = true
 flat (num (suc n)) = false
 flat (sq e) = false
-flat (c ⊞ d) = and (flat c) (flat d)
-flat (c ⊠ d) = or (flat c) (flat d)
+flat (c ⊞ d) = flat c && flat d
+flat (c ⊠ d) = flat c || flat d
 flat (less c) = false
 flat (eqn i e) = true
 
@@ -152,10 +150,6 @@ at Q z f none i = z
 at Q z f (also {s = s} h hs) zero = f s h
 at Q z f (also h hs) (suc i) = at Q z f hs i
 
-or_cases : {A : Type 0} (b c : Bool) → (T b → A) → (T c → A) → T (or b c) → A
-or_cases true c f g t = f tt
-or_cases false c f g t = g t
-
 less_nn : (b : Bool) (e : E) (ρ : List ℤ) → (T b → pos 0 <ℤ den e ρ) → pos 0 ≤ℤ den (lessᴱ b e) ρ
 less_nn true e ρ f = lin 0 1 (λ a. # 0 ≺ a ⟹ # 0 ≼ a ⊖ # 1) (omega arith) (den e ρ) (f tt)
 less_nn false e ρ f = ≤ℤ_refl _
@@ -179,8 +173,8 @@ module _ (ρ : List ℤ) (H : List St) (hs : Hold ρ H) where
     val_pos (num zero) = λ t. absurd t
     val_pos (num (suc n)) = λ t. num_pos n
     val_pos (sq e) = λ t. absurd t
-    val_pos (c ⊞ d) = or_cases (more H c) (more H d) (λ t. add_pos_nn (val_pos c t) (val_nn d)) (λ t. add_nn_pos (val_nn c) (val_pos d t))
-    val_pos (c ⊠ d) = λ t. mul_pos (val_pos c (and_l (more H c) (more H d) t)) (val_pos d (and_r (more H c) (more H d) t))
+    val_pos (c ⊞ d) = λ t. ⊎_elim (λ t. add_pos_nn (val_pos c t) (val_nn d)) (λ t. add_nn_pos (val_nn c) (val_pos d t)) (or_yes (more H c) (more H d) t)
+    val_pos (c ⊠ d) = λ t. mul_pos (val_pos c (and_yes (more H c) (more H d) t).0) (val_pos d (and_yes (more H c) (more H d) t).1)
     val_pos (less c) = λ t. absurd t
     val_pos (eqn i e) = λ t. absurd t
 
@@ -189,12 +183,12 @@ module _ (ρ : List ℤ) (H : List St) (hs : Hold ρ H) where
   val_flat (num zero) t = refl
   val_flat (num (suc n)) t = absurd t
   val_flat (sq e) t = absurd t
-  val_flat (c ⊞ d) t = ap₂ ◌+ℤ◌ (val_flat c (and_l (flat c) (flat d) t)) (val_flat d (and_r (flat c) (flat d) t))
+  val_flat (c ⊞ d) t = ap₂ ◌+ℤ◌ (val_flat c (and_yes (flat c) (flat d) t).0) (val_flat d (and_yes (flat c) (flat d) t).1)
   val_flat (c ⊠ d) t =
-      or_cases (flat c) (flat d)
+      ⊎_elim
       (λ u. ap (λ x. x *ℤ den (val H d) ρ) (val_flat c u) ∙ a_null (den (val H d) ρ))
       (λ u. ap (λ x. den (val H c) ρ *ℤ x) (val_flat d u) ∙ *ℤ-zero (den (val H c) ρ))
-      t
+      (or_yes (flat c) (flat d) t)
   val_flat (less c) t = absurd t
   val_flat (eqn i e) t = at (λ s. den (gap₀ s) ρ *ℤ den e ρ ≡ pos 0) (a_null (den e ρ)) (λ s h. gap₀-is s e ρ h) hs i
 

@@ -6,7 +6,7 @@ use lib.IntN.{ℤ, pos, ◌+ℤ◌, ◌*ℤ◌, ◌-ℤ◌, neg_ℤ}
 use lib.Signed.{◌≤ℤ◌, ◌<ℤ◌}
 use Rattle.integers.proofs.Expr.{E, ◌⊕◌, ◌⊖◌, ◌⊗◌, ⊝◌, #◌, ◌≼◌, ◌≺◌, ◌≐◌, ◌⟹◌, bot, Pt, PtE, Thm}
 use Rattle.integers.proofs.Lin.{lin, by_lin}
-use Rattle.integers.proofs.Rules.{zrules, sum}
+use Rattle.std.proofs.lemmas.Int.{ints}
 use Rattle.integers.proofs.Ring.{ring, by_ring}
 use Rattle.integers.proofs.Cert.{cert, hyp, sq, ◌⊞◌, ◌⊠◌, less, eqn, ◌∵◌, ◌∵◌÷◌}
 use Rattle.integers.proofs.Poly.{poly, ◌from◌, mixed}
@@ -62,13 +62,13 @@ opaque a b c d h k = lin 0 2 (λ x y. x ≺ y ⟹ y ≼ # 7 ⟹ x ≼ # 6) (omeg
 odd : Thm 0 2 (λ a b. # 2 ⊗ a ≐ # 2 ⊗ b ⊕ # 1 ⟹ bot)
 odd = by_lin (omega arith)
 
--- ---- zrules: nothing to restate, where there are no sums
+-- ---- the library's `ints`: nothing to restate
 
 between : (a b c : ℤ) → a <ℤ b → b ≤ℤ c → c ≤ℤ a → ⊥
-between a b c h k l = omega zrules
+between a b c h k l = omega (arith, ints)
 
 one_more : (a b : ℤ) → a <ℤ b → a +ℤ pos 1 ≤ᶻ b
-one_more a b h = omega (zrules, sum a (pos 1))
+one_more a b h = omega (arith, ints)
 
 -- ---- cert: the certificate is written, and computed
 

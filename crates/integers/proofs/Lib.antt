@@ -1,6 +1,6 @@
 -- Arithmetic of the integers ℤ of lib.IntN, for proofs of plane geometry and of signed code. What to reach for:
 --     an identity                        Ring    ring 3 0 (λ a b c. …) tt
---     a linear order or equation         Lin     lin 0 3 (λ a b c. …) (omega arith);  Rules, with no sums: omega zrules
+--     a linear order or equation         Lin     lin 0 3 (λ a b c. …) (omega arith);  with nothing to restate, the library's omega (arith, ints)
 --     an order between polynomials       Poly    poly 3 0 (λ a b c. … from []) tt (omega arith);  Cert, by a certificate: cert 3 0 (λ a b c. … ∵ …) tt
 --     a law by name                      Order
 --     a signed machine operation fits    Machine, by bounds
@@ -10,7 +10,6 @@
 pub mod Diff
 pub mod Expr
 pub mod Lin
-pub mod Rules
 pub mod Ring
 pub mod Order
 pub mod Cert

@@ -9,7 +9,8 @@ use mathlib.Core.List.{List, [], ◌∷◌}
 use Prim.Native.Nat.{ℕ, zero, suc, ◌+◌, ◌-◌, ◌*◌, ◌<◌, ◌≤◌}
 use native.Mathlib.Omega.{arith}
 use lib.IntN.{ℤ, pos, negsuc}
-use Rattle.integers.proofs.Diff.{pp, nn, Is, is_self, is_add, is_sub, is_mul, is_neg, is_eq, eq_is, le_is, is_le, lt_is, is_lt}
+use borrow.Author.Differences.{up, down}
+use Rattle.integers.proofs.Diff.{Is, is_self, is_add, is_sub, is_mul, is_neg, is_eq, eq_is, le_is, is_le, lt_is, is_lt}
 use Rattle.integers.proofs.Expr.{E, var, lit, ◌⊕◌, ◌⊖◌, ◌⊗◌, ⊝◌, nth, den, St, ◌≼◌, ◌≺◌, ◌≐◌, ◌⟹◌, ◌&◌, bot, Holds, Fun, bind, Alls, All, Thm}
 
 -- the two parts of each variable's value
@@ -18,27 +19,27 @@ Parts = ℕ → ℕ × ℕ
 
 -- the two parts of an expression's value
 abbrev mutual
-  pub up : E → Parts → ℕ
-  up (var i) σ = (σ i).0
-  up (lit k) σ = pp k
-  up (a ⊕ b) σ = up a σ + up b σ
-  up (a ⊖ b) σ = up a σ + dn b σ
-  up (a ⊗ b) σ = up a σ * up b σ + dn a σ * dn b σ
-  up (⊝ a) σ = dn a σ
+  pub upᴱ : E → Parts → ℕ
+  upᴱ (var i) σ = (σ i).0
+  upᴱ (lit k) σ = up k
+  upᴱ (a ⊕ b) σ = upᴱ a σ + upᴱ b σ
+  upᴱ (a ⊖ b) σ = upᴱ a σ + downᴱ b σ
+  upᴱ (a ⊗ b) σ = upᴱ a σ * upᴱ b σ + downᴱ a σ * downᴱ b σ
+  upᴱ (⊝ a) σ = downᴱ a σ
 
-  pub dn : E → Parts → ℕ
-  dn (var i) σ = (σ i).1
-  dn (lit k) σ = nn k
-  dn (a ⊕ b) σ = dn a σ + dn b σ
-  dn (a ⊖ b) σ = dn a σ + up b σ
-  dn (a ⊗ b) σ = up a σ * dn b σ + dn a σ * up b σ
-  dn (⊝ a) σ = up a σ
+  pub downᴱ : E → Parts → ℕ
+  downᴱ (var i) σ = (σ i).1
+  downᴱ (lit k) σ = down k
+  downᴱ (a ⊕ b) σ = downᴱ a σ + downᴱ b σ
+  downᴱ (a ⊖ b) σ = downᴱ a σ + upᴱ b σ
+  downᴱ (a ⊗ b) σ = upᴱ a σ * downᴱ b σ + downᴱ a σ * upᴱ b σ
+  downᴱ (⊝ a) σ = upᴱ a σ
 
 -- the statement over ℕ
 abbrev pub Nat : St → Parts → Type 0
-Nat (a ≼ b) σ = up a σ + dn b σ ≤ up b σ + dn a σ
-Nat (a ≺ b) σ = up a σ + dn b σ < up b σ + dn a σ
-Nat (a ≐ b) σ = up a σ + dn b σ ≡ up b σ + dn a σ
+Nat (a ≼ b) σ = upᴱ a σ + downᴱ b σ ≤ upᴱ b σ + downᴱ a σ
+Nat (a ≺ b) σ = upᴱ a σ + downᴱ b σ < upᴱ b σ + downᴱ a σ
+Nat (a ≐ b) σ = upᴱ a σ + downᴱ b σ ≡ upᴱ b σ + downᴱ a σ
 Nat (s ⟹ t) σ = Nat s σ → Nat t σ
 Nat (s & t) σ = Nat s σ × Nat t σ
 Nat bot σ = ⊥
@@ -48,12 +49,12 @@ Nat bot σ = ⊥
 -- N, at some integers: the sum of what they lie below 0
 abbrev pub depth : List ℤ → ℕ
 depth [] = zero
-depth (x ∷ ρ) = nn x + depth ρ
+depth (x ∷ ρ) = down x + depth ρ
 
 abbrev pub parts : List ℤ → Parts
-parts ρ i = (pp (nth ρ i) + (depth ρ - nn (nth ρ i)), depth ρ)
+parts ρ i = (up (nth ρ i) + (depth ρ - down (nth ρ i)), depth ρ)
 
-nth_depth : (ρ : List ℤ) (i : ℕ) → nn (nth ρ i) ≤ depth ρ
+nth_depth : (ρ : List ℤ) (i : ℕ) → down (nth ρ i) ≤ depth ρ
 nth_depth [] i = omega arith
 nth_depth (x ∷ ρ) zero = omega arith
 nth_depth (x ∷ ρ) (suc i) = omega (arith, nth_depth ρ i)
@@ -61,7 +62,7 @@ nth_depth (x ∷ ρ) (suc i) = omega (arith, nth_depth ρ i)
 nth_is : (ρ : List ℤ) (i : ℕ) → Is (nth ρ i) (parts ρ i).0 (parts ρ i).1
 nth_is ρ i = record { is = omega (arith, nth_depth ρ i) }
 
-den_is : (e : E) (ρ : List ℤ) → Is (den e ρ) (up e (parts ρ)) (dn e (parts ρ))
+den_is : (e : E) (ρ : List ℤ) → Is (den e ρ) (upᴱ e (parts ρ)) (downᴱ e (parts ρ))
 den_is (var i) ρ = nth_is ρ i
 den_is (lit k) ρ = is_self k
 den_is (a ⊕ b) ρ = is_add (den_is a ρ) (den_is b ρ)
@@ -133,9 +134,9 @@ len (x ∷ ρ) = suc (len ρ)
 
 abbrev tuple : ℕ → (ρ : List ℤ) → Tuple (len ρ)
 tuple N [] = tt
-tuple N (x ∷ ρ) = (pp x + (N - nn x), tuple N ρ)
+tuple N (x ∷ ρ) = (up x + (N - down x), tuple N ρ)
 
-pick_is : (N : ℕ) (ρ : List ℤ) (i : ℕ) → pick (len ρ) N (tuple N ρ) i ≡ (pp (nth ρ i) + (N - nn (nth ρ i)), N)
+pick_is : (N : ℕ) (ρ : List ℤ) (i : ℕ) → pick (len ρ) N (tuple N ρ) i ≡ (up (nth ρ i) + (N - down (nth ρ i)), N)
 pick_is N [] i = ap (λ n. (n, N)) (zero_is N)
   where
     zero_is : (N : ℕ) → N ≡ zero + (N - zero)

@@ -2,34 +2,27 @@
 -- and `fits` makes of it what a machine operation asks, `SFits w z`. `Got w B t z` says that t, which the machine read back from bits, is z, at most B in size:
 -- a need over what the machine reads back, as `SFits w (to_z w (of_z w x) -ℤ to_z w (of_z w y))`, is so answered from facts of x and y alone.
 -- Assumes nothing.
-use mathlib.Core.Path.{◌≡◌, refl, sym, ◌∙◌, ap₂, subst, subst₂}
-use mathlib.Core.Bool.{Bool, true, false, not}
-use Prim.Native.Nat.{ℕ, ◌+◌, ◌*◌, ◌^◌, ◌≤◌, ◌<◌}
+use mathlib.Core.Path.{◌≡◌, sym, ◌∙◌, ap₂, subst, subst₂}
+use mathlib.Core.Bool.{true, false}
+use Prim.Native.Nat.{ℕ, ◌+◌, ◌*◌, ◌^◌}
 use native.Mathlib.Omega.{arith}
-use lib.Dec.{T, ltb, ltb→lt}
-use lib.IntN.{ℤ, pos, negsuc, ◌+ℤ◌, ◌*ℤ◌, ◌-ℤ◌, neg_ℤ}
-use lib.Signed.{◌≤ℤ◌, ◌<ℤ◌, mag, lt_z, le_z, lt_z_yes, lt_z_no, le_z_yes}
+use Rattle.std.proofs.lemmas.Int.{ints}
+use lib.Dec.{T, ltb}
+use lib.IntN.{ℤ, ◌+ℤ◌, ◌*ℤ◌, ◌-ℤ◌, neg_ℤ}
+use lib.Signed.{◌≤ℤ◌, ◌<ℤ◌, lt_z, le_z}
 use mir.Syntax.{Width}
 use mir.Val.{SFits, to_z, of_z, hbits}
 use mir.ValLaws.{to_z-of_z}
 use Rattle.integers.specs.Upto.{Upto}
-use Rattle.integers.proofs.Diff.{is_self, is_neg, le_is, is_le}
-use Rattle.integers.proofs.Expr.{◌⊕◌, ⊝◌, ◌≼◌, ◌⟹◌, ◌&◌}
-use Rattle.integers.proofs.Lin.{lin}
-use Rattle.integers.proofs.Order.{mul_bound, not-≤}
+use Rattle.integers.proofs.Order.{mul_bound}
 
 -- ---- at most B in size
 
 pub upto_neg : {A : ℕ} {x : ℤ} → Upto A x → Upto A (neg_ℤ x)
-upto_neg {A} {x} h =
-    let r = lin 0 2 (λ a x. ⊝ a ≼ x ⟹ x ≼ a ⟹ ⊝ a ≼ ⊝ x & ⊝ x ≼ a) (omega arith) (pos A) x h.low h.high in
-    record { low = r.0; high = r.1 }
+upto_neg h = record { low = omega (arith, ints); high = omega (arith, ints) }
 
 pub upto_add : {A B : ℕ} {x y : ℤ} → Upto A x → Upto B y → Upto (A + B) (x +ℤ y)
-upto_add {A} {B} {x} {y} h k =
-    let r = lin 0 4 (λ a b x y. ⊝ a ≼ x ⟹ x ≼ a ⟹ ⊝ b ≼ y ⟹ y ≼ b ⟹ ⊝ (a ⊕ b) ≼ x ⊕ y & x ⊕ y ≼ a ⊕ b) (omega arith)
-    (pos A) (pos B) x y h.low h.high k.low k.high in
-    record { low = r.0; high = r.1 }
+upto_add h k = record { low = omega (arith, ints); high = omega (arith, ints) }
 
 pub upto_sub : {A B : ℕ} {x y : ℤ} → Upto A x → Upto B y → Upto (A + B) (x -ℤ y)
 upto_sub h k = upto_add h (upto_neg k)
@@ -37,20 +30,10 @@ upto_sub h k = upto_add h (upto_neg k)
 pub upto_mul : {A B : ℕ} {x y : ℤ} → Upto A x → Upto B y → Upto (A * B) (x *ℤ y)
 upto_mul h k = let r = mul_bound h.low h.high k.low k.high in record { low = r.0; high = r.1 }
 
--- a larger bound; at two numerals, `upto_le (lit≤ tt) h` with lit≤ of lib.Dec
-pub upto_le : {A B : ℕ} {x : ℤ} → A ≤ B → Upto A x → Upto B x
-upto_le {A} {B} {x} l h =
-    let r = lin 0 3 (λ a b x. a ≼ b ⟹ ⊝ a ≼ x ⟹ x ≼ a ⟹ ⊝ b ≼ x & x ≼ b) (omega arith) (pos A) (pos B) x (is_le (is_self (pos A)) (is_self (pos B)) (omega arith)) h.low h.high in
-    record { low = r.0; high = r.1 }
-
 -- ---- the range of a signed width
 
-mag_lt : (z : ℤ) {B H : ℕ} → B < H → Upto B z → mag z < H
-mag_lt (pos n) {B} {H} l h = omega (arith, le_is (is_self (pos n)) (is_self (pos B)) h.high)
-mag_lt (negsuc n) {B} {H} l h = omega (arith, le_is (is_neg (is_self (pos B))) (is_self (negsuc n)) h.low)
-
 pub fits : (w : Width) {B : ℕ} {z : ℤ} → T (ltb B (2 ^ hbits w)) → Upto B z → SFits w z
-fits w {B} {z} t h = record { sfits = mag_lt z (ltb→lt B (2 ^ hbits w) t) h }
+fits w t h = grind (arith, ints)
 
 -- ---- what the machine reads back
 
@@ -106,23 +89,16 @@ module _ {w : Width} {A B : ℕ} {t s z y : ℤ} (h : Got w A t z) (k : Got w B 
 -- (a test `a < b` is `lt_z`, `a <= b` is `le_z`; where the numbers are equal to what they are read from, see `Got`)
 
 pub lt_z_true : {a b : ℤ} → lt_z a b ≡ true → a <ℤ b
-lt_z_true e = lt_z_yes (subst T (sym e) tt)
+lt_z_true e = grind (arith, ints)
 
 pub lt_z_false : {a b : ℤ} → lt_z a b ≡ false → b ≤ℤ a
-lt_z_false e = lt_z_no (subst (λ x. T (not x)) (sym e) tt)
+lt_z_false e = grind (arith, ints)
 
 pub le_z_true : {a b : ℤ} → le_z a b ≡ true → a ≤ℤ b
-le_z_true e = le_z_yes (subst T (sym e) tt)
+le_z_true e = grind (arith, ints)
 
 pub le_z_false : {a b : ℤ} → le_z a b ≡ false → b <ℤ a
-le_z_false {a} {b} e = not-≤ (λ h. no_true (subst (λ x. x ≡ false) (T_true (le_z a b) h.le) e))
-  where
-    T_true : (b : Bool) → T b → b ≡ true
-    T_true true t = refl
-    T_true false t = absurd t
-
-    no_true : true ≡ false → ⊥
-    no_true p = subst T p tt
+le_z_false e = grind (arith, ints)
 
 -- an order between what is read back, as one between the numbers
 module _ {t s z y : ℤ} (p : t ≡ z) (q : s ≡ y) where

@@ -5,7 +5,7 @@
 -- after the others, so a factor of the goal is cancelled by a product with it. `omega` takes about 60 monomials.
 -- Assumes nothing.
 use mathlib.Core.Path.{◌≡◌, refl, sym, ◌∙◌, ap, ap₂, subst}
-use mathlib.Core.Bool.{Bool, true, false}
+use mathlib.Core.Bool.{Bool, true, false, ◌&&◌}
 use mathlib.Core.List.{List, [], ◌∷◌}
 use Prim.Native.Nat.{ℕ, zero, suc}
 use native.Mathlib.Omega.{arith}
@@ -14,7 +14,7 @@ use lib.IntN.{ℤ, pos, ◌+ℤ◌, ◌*ℤ◌, ◌-ℤ◌, neg_ℤ}
 use lib.Signed.{◌≤ℤ◌, ◌<ℤ◌}
 use Rattle.integers.proofs.Expr.{E, var, lit, ◌⊕◌, ◌⊖◌, ◌⊗◌, ⊝◌, #◌, nth, den, St, ◌≼◌, ◌≺◌, ◌≐◌, ◌⟹◌, ◌&◌, bot, Holds, Fun, bind, All, all}
 use Rattle.integers.proofs.Lin.{lin, len, Asks, Asked, asked, freed}
-use Rattle.integers.proofs.Ring.{P, norm, is_zero, mons, Left-over, ev_null, and}
+use Rattle.integers.proofs.Ring.{P, norm, is_zero, mons, Left-over, ev_null}
 use Rattle.integers.proofs.Order.{not-≤, not-<, ≤→nn, nn→≤, <→pos, pos→<}
 use Rattle.integers.proofs.Cert.{C, hyp, ◌⊠◌, val, more, hyps, Hold, none, also, val_nn, val_pos}
 
@@ -27,7 +27,7 @@ abbrev pub eq_m : Mono → Mono → Bool
 eq_m [] [] = true
 eq_m [] (j ∷ n) = false
 eq_m (i ∷ m) [] = false
-eq_m (i ∷ m) (j ∷ n) = and (eqb i j) (eq_m m n)
+eq_m (i ∷ m) (j ∷ n) = eqb i j && eq_m m n
 
 -- M with m, where it is not there yet
 abbrev pub enter : Mono → List Mono → List Mono

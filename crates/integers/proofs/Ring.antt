@@ -4,12 +4,13 @@
 -- The normal form is sparse Horner's: `p ▷ q` is p + x · q, with x the first variable, p over the other variables and q over all.
 -- So a sum compares no monomials. Assumes nothing.
 use mathlib.Core.Path.{◌≡◌, refl, sym, ◌∙◌, ap, ap₂}
-use mathlib.Core.Bool.{Bool, true, false}
+use mathlib.Core.Bool.{Bool, true, false, ◌&&◌}
 use mathlib.Core.List.{List, [], ◌∷◌}
 use Prim.Native.Nat.{ℕ, zero, suc}
 use native.Mathlib.Omega.{arith}
 use lib.Dec.{T}
 use lib.IntN.{ℤ, pos, negsuc, ◌+ℤ◌, ◌*ℤ◌, ◌-ℤ◌, neg_ℤ, +ℤ_assoc, +ℤ_comm}
+use mir.Facts.{and_yes}
 use Rattle.integers.proofs.Expr.{E, var, lit, ◌⊕◌, ◌⊖◌, ◌⊗◌, ⊝◌, #◌, nth, den, St, ◌≼◌, ◌≺◌, ◌≐◌, ◌⟹◌, ◌&◌, bot, Holds, Fun, bind, All, all, Thm}
 use Rattle.integers.proofs.Lin.{lin}
 
@@ -76,13 +77,9 @@ norm (a ⊖ b) = add (norm a) (scale (negsuc zero) (norm b))
 norm (a ⊗ b) = mul (norm a) (norm b)
 norm (⊝ a) = scale (negsuc zero) (norm a)
 
-abbrev pub and : Bool → Bool → Bool
-and true c = c
-and false c = false
-
 abbrev pub is_zero : P → Bool
 is_zero (con k) = isz k
-is_zero (p ▷ q) = and (is_zero p) (is_zero q)
+is_zero (p ▷ q) = is_zero p && is_zero q
 
 -- ---- it is right. The identities of the integers that this needs are `lin`'s
 a_swap : (a b c d x : ℤ) → (a +ℤ b) +ℤ x *ℤ (c +ℤ d) ≡ (a +ℤ x *ℤ c) +ℤ (b +ℤ x *ℤ d)
@@ -194,19 +191,11 @@ isz_is (pos zero) t = refl
 isz_is (pos (suc n)) t = absurd t
 isz_is (negsuc n) t = absurd t
 
-pub and_l : (b c : Bool) → T (and b c) → T b
-and_l true c t = tt
-and_l false c t = t
-
-pub and_r : (b c : Bool) → T (and b c) → T c
-and_r true c t = t
-and_r false c t = absurd t
-
 ev_zero : (p : P) (ρ : List ℤ) → T (is_zero p) → ev p ρ ≡ pos zero
 ev_zero (con k) ρ t = isz_is k t
-ev_zero (p ▷ q) [] t = ev_zero p [] (and_l (is_zero p) (is_zero q) t)
+ev_zero (p ▷ q) [] t = ev_zero p [] (and_yes (is_zero p) (is_zero q) t).0
 ev_zero (p ▷ q) (x ∷ ρ) t =
-    ap₂ (λ u v. u +ℤ x *ℤ v) (ev_zero p ρ (and_l (is_zero p) (is_zero q) t)) (ev_zero q (x ∷ ρ) (and_r (is_zero p) (is_zero q) t))
+    ap₂ (λ u v. u +ℤ x *ℤ v) (ev_zero p ρ (and_yes (is_zero p) (is_zero q) t).0) (ev_zero q (x ∷ ρ) (and_yes (is_zero p) (is_zero q) t).1)
     ∙ a_zero (pos zero) x
 
 -- ---- the check. It computes to `Unit`, whose proof is `tt`, where the expression is 0; else to an empty type that shows the monomials left over,

@@ -7,10 +7,10 @@ use lib.IntN.{ℤ, pos, ◌-ℤ◌, ◌*ℤ◌}
 use mir.Syntax.{w32, w64}
 use mir.Val.{hbits, to_z, of_z}
 use Rattle.integers.specs.Upto.{Upto}
-use Rattle.integers.proofs.Machine.{Got, got', plain, upto_sub, upto_mul}
+use Rattle.integers.proofs.Machine.{Got, got', upto_sub, upto_mul}
 use Rattle.plane.specs.Points.{signed_area}
-use Rattle.turns.specs.Keys.{Key, east_part, north_part, point_of}
-use Rattle.turns.proofs.Coordinates.{easts_upto, norths_upto, upto_nat, area_by_parts}
+use Rattle.turns.specs.Keys.{IsKey, east_part, north_part, point_of}
+use Rattle.turns.proofs.Coordinates.{easts_upto, norths_upto, upto_nat, area_by_parts, wide}
 use Rattle.lines.specs.Lines.{LineOf, Drawn}
 use Rattle.lines.specs.declared.Line.{Line}
 
@@ -23,10 +23,7 @@ pub part : {r : ℤ} {k n : ℕ} → r ≡ pos k → k ≡ n → n ≤ 32000 →
 part {r} {k} {n} e d h = read tt (e ∙ ap pos d) (upto_nat {b = 32000} n h)
 
 -- how far east and north b's point is of a's, in 64 bits, and as 32 bits gave it
-module _ {a b : ℕ} (ka : Key a) (kb : Key b) {r : ℤ} where
-  wider : {s z : ℤ} → r ≡ to_z w32 (of_z w32 s) → s ≡ z → Upto 32000 z → r ≡ z
-  wider e d h = e ∙ ap (λ x. to_z w32 (of_z w32 x)) d ∙ plain w32 tt h
-
+module _ {a b : ℕ} (ka : IsKey a) (kb : IsKey b) {r : ℤ} where
   easts : r ≡ (point_of b).east -ℤ (point_of a).east → Got w64 32000 (to_z w64 (of_z w64 r)) ((point_of b).east -ℤ (point_of a).east)
   easts e = read tt e (easts_upto ka kb)
 
@@ -35,11 +32,11 @@ module _ {a b : ℕ} (ka : Key a) (kb : Key b) {r : ℤ} where
 
   pub wide_easts : {s : ℤ} → r ≡ to_z w32 (of_z w32 s) → s ≡ (point_of b).east -ℤ (point_of a).east
       → Got w64 32000 (to_z w64 (of_z w64 r)) ((point_of b).east -ℤ (point_of a).east)
-  wide_easts e d = easts (wider e d (easts_upto ka kb))
+  wide_easts e d = wide tt tt e d (easts_upto ka kb)
 
   pub wide_norths : {s : ℤ} → r ≡ to_z w32 (of_z w32 s) → s ≡ (point_of b).north -ℤ (point_of a).north
       → Got w64 32000 (to_z w64 (of_z w64 r)) ((point_of b).north -ℤ (point_of a).north)
-  wide_norths e d = norths (wider e d (norths_upto ka kb))
+  wide_norths e d = wide tt tt e d (norths_upto ka kb)
 
 -- the fields of a line, whatever keys it is that of
 module _ {l : Line} (d : Drawn l) where

@@ -1,7 +1,7 @@
 -- A line through two keys' points, and the side of it that a third key's point is on. Definitions only.
 use Rattle.std.specs.Prelude.{◌≡◌, ℕ, ℤ, pos, ◌-ℤ◌, ◌*ℤ◌}
 use Rattle.plane.specs.Points.{signed_area}
-use Rattle.turns.specs.Keys.{Key, east_part, north_part, point_of}
+use Rattle.turns.specs.Keys.{IsKey, east_part, north_part, point_of}
 use Rattle.lines.specs.declared.Line.{Line}
 
 -- the line from a's point to b's: how far it goes east and north, and its offset from the south-west end of the span
@@ -14,8 +14,8 @@ pub record LineOf (a b : ℕ) (l : Line) : Type 0 where
 pub record Drawn (l : Line) : Type 0 where
   pub from : ℕ
   pub to : ℕ
-  pub key_from : Key from
-  pub key_to : Key to
+  pub key_from : IsKey from
+  pub key_to : IsKey to
   pub line : LineOf from to l
 
 -- the answer is the signed area, whatever two keys the line is that of

@@ -2,18 +2,20 @@
 #![tactic(auto)]
 
 ghost use Rattle.std.specs.Prelude.{◌++◌, map, ◌≡◌, ◌-◌, ◌*◌, ◌≤◌, length, take, drop};
-ghost use Rattle.plane.specs.Members.{All};
-ghost use Rattle.turns.specs.Keys.{Key, point_of};
+ghost use Rattle.turns.specs.Keys.{point_of};
 ghost use Rattle.listings.specs.Listings.{flat, zeros, over_front};
 
-// Writes east and north of each key's point over the front of answer.
-pub fn write_vertices(keys: &[u32], answer: &mut [i32])
-    requires { All Key keys.now × (length keys.now * 2 ≤ length answer.old) }
+use turns::Key;
+
+// Writes east and north of each key's point over the front of answer. (By index: over `chunks_exact_mut(2)` with the
+// keys the invariant would be of the two iterators' states, and not of answer.)
+pub fn write_vertices(keys: &[Key], answer: &mut [i32])
+    requires { length keys.now * 2 ≤ length answer.old }
     ensures { answer.new ≡ over_front (flat (map point_of keys.now)) answer.old }
 {
-    for k in 0..keys.len() {
-        answer[k * 2] = turns::east_of(keys[k]);
-        answer[k * 2 + 1] = turns::north_of(keys[k]);
+    for (k, key) in keys.iter().enumerate() {
+        answer[k * 2] = key.east();
+        answer[k * 2 + 1] = key.north();
     }
 }
 

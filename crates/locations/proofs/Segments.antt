@@ -1,12 +1,11 @@
 -- One vertex, or two: the plug is on the segment between them, or off. Assumes nothing.
-use Prim.Native.Nat.{ℕ, ◌-◌, ◌≤◌, ◌<◌}
-use mathlib.Core.Path.{◌≡◌, refl, sym, ap, ◌∙◌, subst}
+use Prim.Native.Nat.{ℕ}
+use mathlib.Core.Path.{◌≡◌, sym, ap, ◌∙◌, subst}
 use mathlib.Core.Logic.{◌⊎◌, inl, inr}
-use mathlib.Core.List.{List, [], ◌∷◌, map}
+use mathlib.Core.List.{List, map}
 use native.Mathlib.Omega.{arith}
 use lib.IntN.{ℤ, pos, ◌-ℤ◌, ◌*ℤ◌}
 use lib.Signed.{◌≤ℤ◌, ◌<ℤ◌}
-use lib.ListN.{length, get_or}
 use Rattle.integers.proofs.Expr.{◌⊕◌, ◌⊖◌, ◌⊗◌, #◌, ◌≼◌, ◌≺◌, ◌≐◌, ◌⟹◌, bot}
 use Rattle.integers.proofs.Lin.{lin}
 use Rattle.integers.proofs.Ring.{ring}
@@ -23,9 +22,8 @@ use Rattle.plane.proofs.Sides.{side_supported, side_separated, dot_productᴱ}
 use Rattle.plane.proofs.PolygonFacts.{Between, between_swap, between_balanced, apart_length, same_point}
 use Rattle.plane.proofs.Others.{balanced_within}
 use Rattle.turns.specs.Keys.{point_of}
-use Rattle.locations.specs.Places.{PlaceSays, PlaceOf}
+use Rattle.locations.specs.Places.{PlaceSays}
 use Rattle.locations.specs.Search.{OfSegment}
-use Rattle.locations.specs.declared.Place.{Place}
 use Rattle.locations.specs.declared.Place.TheVariants.{OnLine, Off}
 use Rattle.locations.proofs.Vertices.{line_right, all_one, all_between}
 
@@ -150,10 +148,3 @@ module _ (a b k : ℕ) where
                 (subst (λ x. dot_product (point_of k) (point_of a) (point_of x) ≤ℤ pos 0) (sym z) h);
           };
         }
-
--- of a slice of one key or two
-pub segment_place : (ks : List ℕ) {k : ℕ} {r : Place} → 1 ≤ length ks → length ks < 3 → OfSegment (get_or ks 0 0) (get_or ks (length ks - 1) 0) k r → PlaceOf ks k r
-segment_place [] h l s = absurd (omega arith)
-segment_place (a ∷ []) h l s = s.one refl
-segment_place (a ∷ b ∷ []) h l s = s.two
-segment_place (a ∷ b ∷ c ∷ ks) h l s = absurd (omega arith)

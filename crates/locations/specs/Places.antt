@@ -1,18 +1,11 @@
--- Where a plug lies with respect to the points whose polygon is given by its vertices' keys: what the call asks, and what each answer says. Definitions only.
-use Rattle.std.specs.Prelude.{ℕ, ◌≤◌, List, map, length}
+-- Where a plug lies with respect to the points whose polygon is given by its vertices' keys: what each answer says. Definitions only.
+use Rattle.std.specs.Prelude.{ℕ, List, map}
 use Rattle.plane.specs.declared.Point.{Point}
-use Rattle.plane.specs.Members.{All}
 use Rattle.plane.specs.Vectors.{from, Supported, Balanced, Separated}
 use Rattle.plane.specs.Polygons.{Polygon}
-use Rattle.turns.specs.Keys.{Key, point_of}
+use Rattle.turns.specs.Keys.{point_of}
 use Rattle.locations.specs.declared.Place.{Place}
 use Rattle.locations.specs.declared.Place.TheVariants.{Within, OnLine, Off}
-
--- there is a vertex, and every vertex and the plug are keys
-pub record KeyPolygon (ks : List ℕ) (k : ℕ) : Type 0 where
-  pub some : 1 ≤ length ks
-  pub vertices : All Key ks
-  pub plug : Key k
 
 -- what an answer says of the plug p and the points qs, by the terms of docs/SCOPE.md 1.7 and 1.8. Within: strictly inside the hull. On the line: not strictly inside, and in the
 -- hull, edge included. Off: a direction has every point strictly behind it, so that the plug is not in the hull

@@ -3,7 +3,7 @@ use Rattle.std.specs.Prelude.{ℕ, ◌+◌, ◌-◌, ◌≤◌, ◌<◌, ◌≡�
 use Rattle.plane.specs.Points.{signed_area}
 use Rattle.plane.specs.declared.Point.{Point}
 use Rattle.turns.specs.Keys.{point_of}
-use Rattle.locations.specs.Places.{KeyPolygon, PlaceOf}
+use Rattle.locations.specs.Places.{PlaceOf}
 use Rattle.locations.specs.declared.Place.{Place}
 
 -- the point of a vertex by its index, from 0
@@ -17,7 +17,6 @@ pub record OfSegment (a b k : ℕ) (r : Place) : Type 0 where
 
 -- three vertices or more, and the plug is strictly left of neither of the first vertex's two sides
 pub record InFan (ks : List ℕ) (k : ℕ) : Type 0 where
-  pub keys : KeyPolygon ks k
   pub three : 3 ≤ length ks
   pub first_side : signed_area (vertex_at ks 0) (vertex_at ks 1) (point_of k) ≤ℤ pos 0
   pub last_side : signed_area (vertex_at ks (length ks - 1)) (vertex_at ks 0) (point_of k) ≤ℤ pos 0

@@ -2,11 +2,11 @@
 // A search of the fan from the first vertex: its steps grow with the logarithm of the vertex count.
 #![tactic(auto)]
 
-ghost use Rattle.turns.specs.Keys.{Key};
-ghost use Rattle.locations.specs.Places.{KeyPolygon, PlaceOf};
+ghost use Rattle.std.specs.Prelude.{◌≤◌, length};
+ghost use Rattle.locations.specs.Places.{PlaceOf};
 ghost use Rattle.locations.specs.Search.{InFan, FanWedge, OfSegment};
 
-use turns::{dot_product, signed_area};
+use turns::{Key, dot_product, signed_area};
 
 // Strictly within the hull of the points; on its line: in the hull, edge included, and not strictly within;
 // off: not in the hull.
@@ -18,8 +18,7 @@ pub enum Place {
 }
 
 // Where the points of a polygon are in line from a to b, or all one: the plug is on the segment from a to b, or off.
-fn place_on_segment(a: u32, b: u32, plug: u32) -> Place
-    requires { Key a × Key b × Key plug }
+fn place_on_segment(a: Key, b: Key, plug: Key) -> Place
     ensures { OfSegment a b plug result }
 {
     if signed_area(a, b, plug) != 0 {
@@ -33,7 +32,7 @@ fn place_on_segment(a: u32, b: u32, plug: u32) -> Place
 
 // The index of the vertex from which the plug lies on to the next one, as seen from the first: by halving.
 // (`partition_point` promises nothing of a list that is not known to be parted; this needs no more than its ends.)
-fn fan_index(vertices: &[u32], plug: u32) -> usize
+fn fan_index(vertices: &[Key], plug: Key) -> usize
     requires { InFan vertices.now plug }
     ensures { FanWedge vertices.now plug result }
 {
@@ -54,8 +53,8 @@ fn fan_index(vertices: &[u32], plug: u32) -> usize
 
 // Where the plug lies. Off, where it is strictly left of one of the first vertex's two sides or of the side that
 // the fan finds; else on the line, where it is on one of these three; else strictly within.
-pub fn place_of(vertices: &[u32], plug: u32) -> Place
-    requires { KeyPolygon vertices.now plug }
+pub fn place_of(vertices: &[Key], plug: Key) -> Place
+    requires { 1 ≤ length vertices.now }
     ensures { PlaceOf vertices.now plug result }
 {
     let n = vertices.len();

@@ -11,8 +11,8 @@ use Rattle.plane.specs.Points.{point, InSpan}
 use Rattle.plane.specs.declared.Point.{Point}
 use Rattle.plane.specs.Members.{All, none, ◌&◌, ◌∈◌}
 use Rattle.plane.specs.Polygons.{Polygon}
-use Rattle.plane.proofs.Lists.{all_of, all_by_index, index_of_all, in_by_index, index_of_in, map_at}
-use Rattle.turns.specs.Keys.{Key, AllKeys, key_at, point_of}
+use Rattle.plane.proofs.Lists.{all_of, index_of_all, in_by_index, index_of_in, map_at}
+use Rattle.turns.specs.Keys.{IsKey, AllKeys, key_at, point_of}
 use Rattle.turns.specs.Reflection.{reflected}
 use Rattle.turns.proofs.Order.{point_injective}
 use Rattle.turns.proofs.Coordinates.{key_at_lem}
@@ -33,7 +33,7 @@ use Rattle.outlines.proofs.Polygons.{all_length}
 
 pub record Keyed (qs : List Point) : Type 0 where
   pub keys : List ℕ
-  pub all : All Key keys
+  pub all : All IsKey keys
   pub points : map point_of keys ≡ qs
 
 pub keyed_all : (qs : List Point) → All InSpan qs → Keyed qs
@@ -79,17 +79,13 @@ module _ {qs : List Point} (kd : Keyed qs) where
       }
 
   -- the polygon of the keys is that of the points
-  pub points_polygon : (vs : List ℕ) (count : ℕ) → count ≤ length vs → Hull keys_of vs count → PolygonKeys qs vs count
-  points_polygon vs count room g =
+  pub points_polygon : (vs : List ℕ) (count : ℕ) → Hull keys_of vs count → PolygonKeys qs vs count
+  points_polygon vs count g =
       record {
         some = g.some;
         few = omega (arith, g.few, keys_length);
-        keys = all_by_index 0 (take count vs) key;
         polygon = subst (λ q. Polygon q (map point_of (take count vs))) kd.points g.polygon;
       }
-    where
-      key : (i : ℕ) → i < length (take count vs) → Key (get_or (take count vs) i 0)
-      key i l = let e = length-take-le count vs room in rw (get_or-take count vs i 0 (omega arith)) (g.listed.key i (omega arith))
 
 -- ---- the keys of a chain, as the callee sees them that is lent the first of a list
 
@@ -115,9 +111,6 @@ module _ {f : ℕ → ℕ} {qs : List Point} {n first last : ℕ} (list : List �
         right = λ a b h c g d. (ck.under x m).right a b h c (λ j o. subst (λ k. turn a b k ≤ℤ pos 0) (at j (omega (arith, front))) (g j (omega (arith, front)))) d;
       }
 
-  pub front_keys : ((x : ℕ) → Key x → Key (f x)) → AllKeys (get (take u list)) (length (take u list))
-  front_keys keeps = record { key = λ j h. let r = front_from j h in subst Key (sym r.2) (keeps r.0 r.1.key) }
-
 -- ---- the polygon
 
 module _ {qs : List Point} (kd : Keyed qs) {n first last : ℕ} (h : first < last) (e : PointEnds qs first last) (up down : List ℕ) {u v : ℕ} (ur : u ≤ length up) (vr : v ≤ length down)
@@ -137,7 +130,7 @@ module _ {qs : List Point} (kd : Keyed qs) {n first last : ℕ} (h : first < las
 pub outer_one : {qs : List Point} (kd : Keyed qs) {first last : ℕ} (out : List ℕ) → 1 ≤ length out → PointEnds qs first last → last ≤ first → get out 0 ≡ first → PolygonKeys qs out 1
 outer_one kd {first} {last} out room e same z =
     let w = among_keys kd e.first_in in
-    points_polygon kd out 1 room (made_one (keys_of kd) out first last (omega (arith, w.1)) room (all_keys kd) (key_ends kd e) same z)
+    points_polygon kd out 1 (made_one (keys_of kd) out first last (omega (arith, w.1)) room (key_ends kd e) same z)
 
 -- ---- the corners of a box list
 

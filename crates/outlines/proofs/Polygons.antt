@@ -1,17 +1,14 @@
 -- From keys of points to the keys of their polygon. Assumes nothing.
 use mathlib.Core.Path.{◌≡◌, sym, ◌∙◌, ap, subst}
 use mathlib.Core.List.{List, map}
-use Prim.Native.Nat.{ℕ, ◌≤◌, ◌<◌, ◌%◌}
+use Prim.Native.Nat.{ℕ, ◌≤◌, ◌%◌}
 use native.Mathlib.Omega.{arith}
 use lib.IntN.{ℤ}
-use lib.ListN.{length, get_or, take, length-append}
-use lib.Seq.{length-take-le, get_or-take}
-use Rattle.plane.specs.Members.{All}
+use lib.ListN.{length, take, length-append}
+use lib.Seq.{length-take-le}
 use Rattle.plane.specs.declared.Point.{Point}
 use Rattle.plane.specs.Polygons.{Polygon}
-use Rattle.plane.proofs.Lists.{all_by_index, index_of_all}
-use Rattle.turns.specs.Keys.{Key, point_of, AllKeys}
-use Rattle.orders.specs.Order.{get}
+use Rattle.turns.specs.Keys.{point_of}
 use Rattle.hulls.specs.Hulls.{Hull}
 use Rattle.rounds.specs.Boxes.{boxes_of, all_corners}
 use Rattle.rounds.specs.declared.Corner.TheVariants.{SouthWest, SouthEast, NorthEast, NorthWest}
@@ -29,20 +26,10 @@ module _ (qs : List Point) (ks : List ℕ) (n : ℕ) (e : length qs ≡ n) (h : 
   pub front_length : length (take n ks) ≡ n
   front_length = length-take-le n ks h
 
-  pub front_keys : AllKeys (get (take n ks)) (length (take n ks))
-  front_keys = record { key = λ i l. index_of_all 0 (subst (λ m. All Key (take m ks)) e f.keys) i l }
-
-  pub front_polygon : (vs : List ℕ) (count : ℕ) → n ≤ length vs → Hull (take n ks) vs count → PolygonKeys qs vs count
-  front_polygon vs count r g =
+  pub front_polygon : (vs : List ℕ) (count : ℕ) → Hull (take n ks) vs count → PolygonKeys qs vs count
+  front_polygon vs count g =
       record {
         some = g.some;
         few = omega (arith, g.few, front_length);
-        keys = all_by_index 0 (take count vs) key;
         polygon = subst (λ q. Polygon q (map point_of (take count vs))) (ap (λ m. map point_of (take m ks)) (sym e) ∙ f.points) g.polygon;
       }
-    where
-      taken : length (take count vs) ≡ count
-      taken = length-take-le count vs (omega (arith, g.few, front_length))
-
-      key : (i : ℕ) → i < length (take count vs) → Key (get_or (take count vs) i 0)
-      key i l = rw (get_or-take count vs i 0 (omega (arith, taken))) (g.listed.key i (omega (arith, taken)))

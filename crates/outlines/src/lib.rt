@@ -1,4 +1,5 @@
 // The outer polygon and the corner polygons of a box list, as the keys of their vertices, in lent scratch.
+// What stands at the front of a lent buffer is counted, not given back as a slice, as in crate chains.
 #![tactic(auto)]
 
 ghost use Rattle.std.specs.Prelude.{◌≡◌, ◌+◌, ◌*◌, ◌/◌, ◌≤◌, ◌<◌, length, min};
@@ -11,12 +12,14 @@ ghost use Rattle.outlines.specs.RoundPolygons.{RoundPolygons};
 use boxes::Boxes;
 use extremes::Ends;
 use rounds::Corner;
+use turns::Key;
 
 // Scratch for the keys of two corners of each of the most boxes that a round has, and a little more, so that each chain
 // ends in it. It is lent as two slices: a struct of them would have to promise at each call that their lengths stay.
 pub const MOST_KEYS: usize = 2052;
 
-// How many vertices each of the five polygons of a round has. Their keys stand one behind another, in this order.
+// How many vertices each of the five polygons of a round has, the outer one beside the four that a call answers. Their
+// keys stand one behind another, in this order.
 #[derive(Clone, Copy)]
 pub struct RoundCounts {
     pub outer: usize,
@@ -32,9 +35,9 @@ pub struct RoundCounts {
 pub fn corner_outline(
     boxes: Boxes,
     corner: Corner,
-    vertices: &mut [u32],
-    keys: &mut [u32],
-    mirror: &mut [u32],
+    vertices: &mut [Key],
+    keys: &mut [Key],
+    mirror: &mut [Key],
 ) -> usize
     requires room { length boxes.numbers.now / 4 ≤ length vertices.old }
     requires scratch_for { ScratchFor (length boxes.numbers.now / 4) keys.old mirror.old }
@@ -46,7 +49,7 @@ pub fn corner_outline(
 }
 
 // Writes the keys of all four corners of all boxes to the front of keys.
-fn put_all_corners(boxes: Boxes, keys: &mut [u32])
+fn put_all_corners(boxes: Boxes, keys: &mut [Key])
     requires { length boxes.numbers.now ≤ length keys.old }
     ensures { KeysOf (all_corners (boxes_of boxes.entry.numbers.now)) keys.new }
 {
@@ -60,12 +63,13 @@ fn put_all_corners(boxes: Boxes, keys: &mut [u32])
     );
 }
 
-// The outer polygon, from all corners: the first of vertices, as many as are returned. What the scratch holds is lost.
+// The outer polygon, from all corners, beside `corner_outline`, since one function would take what puts the keys as a
+// closure with its contract: the first of vertices, as many as are returned. What the scratch holds is lost.
 pub fn outer_outline(
     boxes: Boxes,
-    vertices: &mut [u32],
-    keys: &mut [u32],
-    mirror: &mut [u32],
+    vertices: &mut [Key],
+    keys: &mut [Key],
+    mirror: &mut [Key],
 ) -> usize
     requires room { length boxes.numbers.now ≤ length vertices.old }
     requires scratch_for { ScratchFor (length boxes.numbers.now) keys.old mirror.old }
@@ -77,37 +81,35 @@ pub fn outer_outline(
 }
 
 // The outer polygon from the least key of all corners to the greatest, its ends: the upper chain without its last
-// vertex, and then the lower one without its last, which is made, reflected, in keys.
+// vertex, and then the lower one without its last, which is made, reflected, in keys. (`hulls::two_chains` has both
+// lists of keys beforehand; here the second takes the place of the first, and so is made between the two chains.)
 fn outer_chains(
     boxes: Boxes,
-    ends: Ends,
-    vertices: &mut [u32],
-    keys: &mut [u32],
-    list: &mut [u32],
+    ends: &Ends,
+    vertices: &mut [Key],
+    keys: &mut [Key],
+    list: &mut [Key],
 ) -> usize
-    requires point_ends { PointEnds (all_corners (boxes_of boxes.numbers.now)) ends.first ends.last × (ends.first < ends.last) }
+    requires point_ends { PointEnds (all_corners (boxes_of boxes.numbers.now)) ends.now.first ends.now.last
+        × (ends.now.first < ends.now.last) }
     requires outer_room { OuterRoom (length boxes.numbers.now / 4) vertices.old keys.old list.old }
     ensures { PolygonKeys (all_corners (boxes_of boxes.entry.numbers.now)) vertices.new result }
 {
     let u = corner_lists::upper_keys(boxes, ends, list, keys, vertices);
-    let ku = chains::upper_chain(ends.first, &list[..u], ends.last, vertices);
+    let ku = chains::upper_chain(ends, &list[..u], vertices);
     let v = corner_lists::lower_keys(boxes, ends, list, keys, &mut vertices[ku..]);
-    let kl = chains::upper_chain(
-        turns::reflected(ends.last),
-        &list[..v],
-        turns::reflected(ends.first),
-        keys,
-    );
-    hulls::append_reflected(keys, kl - 1, vertices, ku - 1);
+    let kl = chains::upper_chain(&ends.reflected(), &list[..v], keys);
+    hulls::append_reflected(&keys[..kl - 1], vertices, ku - 1);
     ku - 1 + (kl - 1)
 }
 
 // The outer polygon, by quarters: the first of vertices, as many as are returned. What the scratch holds is lost.
+// (`hulls::polygon` begins alike: one function for both would take the chains as a closure, and be no plainer.)
 pub fn quartered_outline(
     boxes: Boxes,
-    vertices: &mut [u32],
-    keys: &mut [u32],
-    list: &mut [u32],
+    vertices: &mut [Key],
+    keys: &mut [Key],
+    list: &mut [Key],
 ) -> usize
     requires outer_room { OuterRoom (length boxes.numbers.now / 4) vertices.old keys.old list.old }
     ensures { PolygonKeys (all_corners (boxes_of boxes.entry.numbers.now)) vertices.new result }
@@ -117,7 +119,7 @@ pub fn quartered_outline(
         vertices[0] = ends.first;
         return 1;
     }
-    outer_chains(boxes, ends, vertices, keys, list)
+    outer_chains(boxes, &ends, vertices, keys, list)
 }
 
 // The corner polygon of that one corner of every box, in the part of vertices that the first `from` leave free.
@@ -125,9 +127,9 @@ fn append_outline(
     boxes: Boxes,
     corner: Corner,
     from: usize,
-    vertices: &mut [u32],
-    keys: &mut [u32],
-    mirror: &mut [u32],
+    vertices: &mut [Key],
+    keys: &mut [Key],
+    mirror: &mut [Key],
 ) -> usize
     requires room { from + length boxes.numbers.now / 4 ≤ length vertices.old }
     requires scratch_for { ScratchFor (length boxes.numbers.now / 4) keys.old mirror.old }
@@ -138,16 +140,17 @@ fn append_outline(
 }
 
 // The corner polygons of two corners of every box, one behind the other, in the part of vertices that the first `from`
-// leave free.
+// leave free. (Crate polygons writes numbers of points, not keys: one function for both would take the writer as a
+// closure, and be no plainer.)
 #[tactic(auto, using(corners::proofs::Places::corners_length))]
 fn append_two_outlines(
     boxes: Boxes,
     first: Corner,
     second: Corner,
     from: usize,
-    vertices: &mut [u32],
-    keys: &mut [u32],
-    mirror: &mut [u32],
+    vertices: &mut [Key],
+    keys: &mut [Key],
+    mirror: &mut [Key],
 ) -> (usize, usize)
     requires room { from + 2 * (length boxes.numbers.now / 4) ≤ length vertices.old }
     requires scratch_for { ScratchFor (length boxes.numbers.now / 4) keys.old mirror.old }
@@ -162,7 +165,7 @@ fn append_two_outlines(
 }
 
 // The outer polygon: by quarters, but for one box, whose corners have room where the quarters' keys may have none.
-fn first_outline(boxes: Boxes, vertices: &mut [u32], keys: &mut [u32], mirror: &mut [u32]) -> usize
+fn first_outline(boxes: Boxes, vertices: &mut [Key], keys: &mut [Key], mirror: &mut [Key]) -> usize
     requires room { 8 * (length boxes.numbers.now / 4) ≤ length vertices.old }
     requires scratch_for { ScratchFor
         (min (length boxes.numbers.now) (length boxes.numbers.now / 4 + length boxes.numbers.now / 4 + 3))
@@ -180,9 +183,9 @@ fn first_outline(boxes: Boxes, vertices: &mut [u32], keys: &mut [u32], mirror: &
 #[tactic(auto, using(corners::proofs::Places::corners_length, crate::proofs::Polygons::all_length))]
 pub fn round_outlines(
     boxes: Boxes,
-    vertices: &mut [u32],
-    keys: &mut [u32],
-    mirror: &mut [u32],
+    vertices: &mut [Key],
+    keys: &mut [Key],
+    mirror: &mut [Key],
 ) -> RoundCounts
     requires room { 8 * (length boxes.numbers.now / 4) ≤ length vertices.old }
     requires scratch_for { ScratchFor

@@ -15,7 +15,7 @@ use Rattle.plane.specs.declared.Point.{Point}
 use Rattle.plane.specs.Members.{All}
 use Rattle.plane.proofs.Lists.{all_imp, all_map, all_unmap, index_of_all}
 use Rattle.plane.proofs.Twins.{signed_areaᴱ, pt}
-use Rattle.turns.specs.Keys.{Key, point_of}
+use Rattle.turns.specs.Keys.{point_of}
 use Rattle.turns.specs.Turns.{turn_of}
 use Rattle.turns.proofs.Coordinates.{key_at_lem}
 use Rattle.rounds.specs.Boxes.{BoxInSpan, corner_of}
@@ -28,17 +28,14 @@ use Rattle.cones.proofs.Turns.{left_is}
 use Rattle.cones.specs.declared.CornerKey.{CornerKey}
 use Rattle.cones.specs.declared.Cone.{Cone}
 use Rattle.cones.specs.declared.Cone.TheVariants.{Line, Wedge}
-use Rattle.passes.specs.Passes.{Passes, nth_box, names_in, corners_in}
-use Rattle.passes.specs.Keeping.{Keeps, KeepsBox, KeepsBoxes, keys_in}
+use Rattle.passes.specs.Passes.{Passes, PassesLine, nth_box, names_in, corners_in}
+use Rattle.passes.specs.Keeping.{Keeps, KeepsBox, KeepsBoxes, KeepsLine, keys_in}
 use Rattle.passes.proofs.Passing.{InsideWedge, OnLineApart, passes_none, passes_inside, passes_line}
 use Rattle.passes.specs.declared.CornerSet.{CornerSet}
 
 -- the point of a corner's key, which is that of a point of the span
 pub numbered_point : (n : ℕ) (b : Box) → BoxInSpan b → (c : Corner) → corner_point (numbered n b c) ≡ corner_of c b
 numbered_point n b h c = (key_at_lem (corner_of c b) (corner_in_span c b h)).is
-
-pub numbered_key : (n : ℕ) (b : Box) → BoxInSpan b → (c : Corner) → Key (numbered n b c).key
-numbered_key n b h c = (key_at_lem (corner_of c b) (corner_in_span c b h)).key
 
 -- ---- corners that leave the cone as it is
 
@@ -98,3 +95,13 @@ module _ (plug : ℕ) (set : CornerSet) (bs : List Box) (a b : CornerKey) (k i :
         keeps = next_by plug (Line a b) set bs k i h (record { onward = refl; corners = keep }) o.keeps;
         passes = passes_line set bs a b k i h hs o.passes;
       }
+
+-- where the cone is the line through a and whatever other
+module _ {plug : ℕ} {a : CornerKey} {set : CornerSet} {bs : List Box} {k r : ℕ} (o : (b : CornerKey) → Stay plug (Line a b) set bs k r) where
+  pub keeps_each : KeepsLine plug a set bs k r
+  keeps_each = record { keeps = λ b. (o b).keeps }
+
+  pub passes_each : PassesLine (point_of plug) a set bs k r
+  passes_each = record { passes = λ b. (o b).passes }
+
+pub ruleset line_steps = (keeps_each, passes_each)

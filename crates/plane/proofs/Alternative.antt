@@ -16,21 +16,10 @@ use Rattle.integers.proofs.Order.{lt_or_ge, <→≤, ≤-antisym, add_nn}
 use Rattle.plane.specs.declared.Point.{Point}
 use Rattle.plane.specs.Members.{All, none, ◌&◌, ◌∈◌, here, there}
 use Rattle.plane.specs.Vectors.{along, Supported, Balanced, Separated}
-use Rattle.plane.proofs.Lists.{first, all_at, all_imp, all_both}
+use Rattle.plane.proofs.Lists.{first, all_at, all_imp, all_both, all_or}
 use Rattle.plane.proofs.Combos.{balanced₂, balanced₃}
 use Rattle.plane.proofs.Twins.{pt, alongᴱ, det, detᴱ}
 use Rattle.plane.proofs.Winding.{length_pos}
-
--- all are right, or one is not; all are left, or one is not
-pub all_or_one : (f : Point → ℤ) (vs : List Point) → All (λ v. pos 0 <ℤ f v) vs ⊎ ((v : Point) × (v ∈ vs) × (f v ≤ℤ pos 0))
-all_or_one f [] = inl none
-all_or_one f (v ∷ vs) = go (lt_or_ge (pos 0) (f v)) (all_or_one f vs)
-  where
-    go : (pos 0 <ℤ f v) ⊎ (f v ≤ℤ pos 0) → All (λ v. pos 0 <ℤ f v) vs ⊎ ((v : Point) × (v ∈ vs) × (f v ≤ℤ pos 0))
-        → All (λ v. pos 0 <ℤ f v) (v ∷ vs) ⊎ ((u : Point) × (u ∈ (v ∷ vs)) × (f u ≤ℤ pos 0))
-    go (inr h) r = inr (v, here refl, h)
-    go (inl h) (inl k) = inl (h & k)
-    go (inl h) (inr k) = inr (k.0, there k.1, k.2)
 
 -- t is more than 0, or else x is: then so is k t + x for a large k
 abbrev pub Rises : (Point → ℤ) → (Point → ℤ) → Point → Type 0
@@ -152,7 +141,7 @@ next w vs u = start (lt_or_ge (along u.a u.b w) (pos 0)) (zero_or_not w)
         → ((w.east ≡ pos 0) × (w.north ≡ pos 0)) ⊎ ((w.east ≡ pos 0) × (w.north ≡ pos 0) → ⊥) → Balanced (w ∷ vs) ⊎ Separated (w ∷ vs)
     start (inl h) z = inr (record { a = u.a; b = u.b; behind = h & u.behind })
     start (inr h) (inl z) = inl (zero_balanced w vs z.0 z.1)
-    start (inr h) (inr z) = sides h z (all_or_one (λ v. pos 1 *ℤ det w v) vs) (all_or_one (λ v. negsuc 0 *ℤ det w v) vs)
+    start (inr h) (inr z) = sides h z (all_or vs (λ v m. lt_or_ge (pos 0) (pos 1 *ℤ det w v))) (all_or vs (λ v m. lt_or_ge (pos 0) (negsuc 0 *ℤ det w v)))
 
 pub alternative : (vs : List Point) → Balanced vs ⊎ Separated vs
 alternative [] = inr (record { a = pos 0; b = pos 0; behind = none })

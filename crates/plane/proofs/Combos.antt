@@ -4,6 +4,7 @@ use Prim.Native.Nat.{ℕ, zero, suc, ◌+◌, ◌<◌}
 use mathlib.Core.Path.{◌≡◌, refl, sym, ◌∙◌, ap, ap₂, subst}
 use mathlib.Core.List.{List, [], ◌∷◌}
 use native.Mathlib.Omega.{arith}
+use Rattle.std.proofs.lemmas.Int.{ints}
 use lib.Dec.{ltb→lt, lt→ltb}
 use lib.IntN.{ℤ, pos, negsuc, ◌+ℤ◌, ◌*ℤ◌, pos-+ℤ-pos}
 use lib.Signed.{◌≤ℤ◌, ◌<ℤ◌, ≤ℤ_refl}
@@ -27,59 +28,30 @@ pub record Combo (vs : List Point) (x y t : ℤ) : Type 0 where
 
 -- ---- none, a multiple of a member, a sum
 
-abbrev zeros : List Point → List ℕ
-zeros [] = []
-zeros (v ∷ vs) = 0 ∷ zeros vs
+-- one more vector, with the weight n
+more : (n : ℕ) (v : Point) {vs : List Point} {x y t x' y' t' : ℤ} → Combo vs x y t → pos n *ℤ v.east +ℤ x ≡ x' → pos n *ℤ v.north +ℤ y ≡ y' → pos n +ℤ t ≡ t'
+    → Combo (v ∷ vs) x' y' t'
+more n v c e f g =
+    record {
+      weights = n ∷ c.weights;
+      one_each = ap suc c.one_each;
+      total_is = omega (arith, ints, c.total_is);
+      east_is = ap (λ s. pos n *ℤ v.east +ℤ s) c.east_is ∙ e;
+      north_is = ap (λ s. pos n *ℤ v.north +ℤ s) c.north_is ∙ f;
+    }
 
-zeros_length : (vs : List Point) → length (zeros vs) ≡ length vs
-zeros_length [] = refl
-zeros_length (v ∷ vs) = ap suc (zeros_length vs)
-
-zeros_total : (vs : List Point) → total (zeros vs) ≡ 0
-zeros_total [] = refl
-zeros_total (v ∷ vs) = omega (arith, zeros_total vs)
-
-zeros_weighted : (f : Point → ℤ) (vs : List Point) → weighted f (zeros vs) vs ≡ pos 0
-zeros_weighted f [] = refl
-zeros_weighted f (v ∷ vs) = lin 0 2 (λ x s. s ≐ # 0 ⟹ # 0 ⊗ x ⊕ s ≐ # 0) (omega arith) (f v) _ (zeros_weighted f vs)
+none_of : (vs : List Point) → Combo vs (pos 0) (pos 0) (pos 0)
+none_of [] = record { weights = []; one_each = refl; total_is = refl; east_is = refl; north_is = refl }
+none_of (v ∷ vs) = more 0 v (none_of vs) (omega (arith, ints)) (omega (arith, ints)) refl
 
 pub nothing : {vs : List Point} → Combo vs (pos 0) (pos 0) (pos 0)
-nothing {vs} =
-    record {
-      weights = zeros vs;
-      one_each = zeros_length vs;
-      total_is = ap pos (zeros_total vs);
-      east_is = zeros_weighted (λ v. v.east) vs;
-      north_is = zeros_weighted (λ v. v.north) vs;
-    }
-
-abbrev single : {v : Point} {vs : List Point} → ℕ → v ∈ vs → List ℕ
-single n (here {l = vs} e) = n ∷ zeros vs
-single n (there m) = 0 ∷ single n m
-
-single_length : {v : Point} {vs : List Point} (n : ℕ) (m : v ∈ vs) → length (single n m) ≡ length vs
-single_length n (here {l = vs} e) = ap suc (zeros_length vs)
-single_length n (there m) = ap suc (single_length n m)
-
-single_total : {v : Point} {vs : List Point} (n : ℕ) (m : v ∈ vs) → total (single n m) ≡ n
-single_total n (here {l = vs} e) = omega (arith, zeros_total vs)
-single_total n (there m) = omega (arith, single_total n m)
-
-single_weighted : {v : Point} {vs : List Point} (f : Point → ℤ) (n : ℕ) (m : v ∈ vs) → weighted f (single n m) vs ≡ pos n *ℤ f v
-single_weighted f n (here {y = u} {l = vs} e) =
-    lin 0 2 (λ x s. s ≐ # 0 ⟹ x ⊕ s ≐ x) (omega arith) (pos n *ℤ f u) _ (zeros_weighted f vs) ∙ ap (λ v. pos n *ℤ f v) (sym e)
-single_weighted f n (there {y = u} m) = lin 0 3 (λ x s y. s ≐ y ⟹ # 0 ⊗ x ⊕ s ≐ y) (omega arith) (f u) _ _ (single_weighted f n m)
+nothing {vs} = none_of vs
 
 -- k times a member, k ≥ 0
-pub times : {vs : List Point} {v : Point} (k : ℤ) → pos 0 ≤ℤ k → v ∈ vs → Combo vs (k *ℤ v.east) (k *ℤ v.north) k
-times (pos n) h m =
-    record {
-      weights = single n m;
-      one_each = single_length n m;
-      total_is = ap pos (single_total n m);
-      east_is = single_weighted (λ v. v.east) n m;
-      north_is = single_weighted (λ v. v.north) n m;
-    }
+pub times : {v : Point} {vs : List Point} (k : ℤ) → pos 0 ≤ℤ k → v ∈ vs → Combo vs (k *ℤ v.east) (k *ℤ v.north) k
+times (pos n) h (here {y = u} {l = vs} e) =
+    more n u (none_of vs) (rw e (omega (arith, ints))) (rw e (omega (arith, ints))) (omega (arith, ints))
+times (pos n) h (there {y = u} m) = more 0 u (times (pos n) h m) (omega (arith, ints)) (omega (arith, ints)) (omega (arith, ints))
 times (negsuc n) h m = absurd h.le
 
 abbrev add : List ℕ → List ℕ → List ℕ

@@ -1,13 +1,13 @@
 -- The fan. Where the plug lies right of every side of a cyclic listing, or on it, and the first three vertices turn right, it lies in one of the triangles
 -- of the fan from the first vertex: in the first whose far edge has the plug on its left or on it. Assumes nothing.
 use Prim.Native.Nat.{ℕ, suc, ◌<◌}
-use mathlib.Core.Bool.{cond, Bool, true, false, not}
-use mathlib.Core.Path.{refl}
+use mathlib.Core.Bool.{cond, Bool, true, false}
+use mathlib.Core.Path.{◌≡◌, refl}
 use mathlib.Core.List.{List, [], ◌∷◌, map}
 use native.Mathlib.Omega.{arith}
+use Rattle.std.proofs.lemmas.Int.{ints}
 use lib.IntN.{pos, ◌+ℤ◌, neg_ℤ}
-use lib.Dec.{T}
-use lib.Signed.{◌≤ℤ◌, ◌<ℤ◌, lt_z, lt_z_yes, lt_z_no}
+use lib.Signed.{◌≤ℤ◌, ◌<ℤ◌, lt_z}
 use lib.ListN.{length, get_or}
 use Rattle.integers.proofs.Expr.{◌⊕◌, ◌⊗◌, ⊝◌, #◌, ◌≼◌, ◌≺◌, ◌≐◌, ◌⟹◌, bot}
 use Rattle.integers.proofs.Lin.{lin}
@@ -33,7 +33,7 @@ pub record Covers (p a b c : Point) : Type 0 where
 pub covers_balanced : {vs : List Point} (p a b c : Point) → Covers p a b c → a ∈ vs → b ∈ vs → c ∈ vs → Balanced (map (from 1 p) vs)
 covers_balanced p a b c t ma mb mc =
     balanced₃ {u = from 1 p a} {v = from 1 p b} {w = from 1 p c} (neg_ℤ (signed_area b c p)) (signed_area a c p) (neg_ℤ (signed_area a b p))
-    (lin 0 1 (λ x. x ≼ # 0 ⟹ # 0 ≼ ⊝ x) (omega arith) _ t.at_a) t.at_b (lin 0 1 (λ x. x ≼ # 0 ⟹ # 0 ≼ ⊝ x) (omega arith) _ t.at_c) t.some
+    (let h = t.at_a in omega (arith, ints)) t.at_b (let h = t.at_c in omega (arith, ints)) t.some
     (in_map (from 1 p) ma) (in_map (from 1 p) mb) (in_map (from 1 p) mc)
     (ring 4 0 (λ p a b c. ⊝ signed_areaᴱ b c p ⊗ (fromᴱ p a).0 ⊕ signed_areaᴱ a c p ⊗ (fromᴱ p b).0 ⊕ ⊝ signed_areaᴱ a b p ⊗ (fromᴱ p c).0 ≐ # 0) tt (pt p) (pt a) (pt b) (pt c))
     (ring 4 0 (λ p a b c. ⊝ signed_areaᴱ b c p ⊗ (fromᴱ p a).1 ⊕ signed_areaᴱ a c p ⊗ (fromᴱ p b).1 ⊕ ⊝ signed_areaᴱ a b p ⊗ (fromᴱ p c).1 ≐ # 0) tt (pt p) (pt a) (pt b) (pt c))
@@ -52,11 +52,11 @@ pub record FanAt (p f d : Point) (vs : List Point) (i : ℕ) : Type 0 where
 -- the first triangle, or one after it, by the test of b
 fan_step : (p f d a b : Point) (vs : List Point) → (pos 0 ≤ℤ signed_area f b p → Covers p f a b) → (signed_area f b p <ℤ pos 0 → FanAt p f d (b ∷ vs) (fan_at p f (b ∷ vs)))
     → FanAt p f d (a ∷ b ∷ vs) (fan_at p f (a ∷ b ∷ vs))
-fan_step p f d a b vs now on = go (lt_z (signed_area f b p) (pos 0)) (λ t. lt_z_yes t) (λ t. lt_z_no t)
+fan_step p f d a b vs now on = go (lt_z (signed_area f b p) (pos 0)) refl
   where
-    go : (c : Bool) → (T c → signed_area f b p <ℤ pos 0) → (T (not c) → pos 0 ≤ℤ signed_area f b p) → FanAt p f d (a ∷ b ∷ vs) (cond c (suc (fan_at p f (b ∷ vs))) 0)
-    go true g h = let r = on (g tt) in record { within = omega (arith, r.within); covers = r.covers }
-    go false g h = record { within = omega arith; covers = now (h tt) }
+    go : (c : Bool) → lt_z (signed_area f b p) (pos 0) ≡ c → FanAt p f d (a ∷ b ∷ vs) (cond c (suc (fan_at p f (b ∷ vs))) 0)
+    go true e = let r = on (omega (arith, ints)) in record { within = omega (arith, r.within); covers = r.covers }
+    go false e = record { within = omega arith; covers = now (omega (arith, ints)) }
 
 -- on from a vertex a that has the plug strictly right of f → a
 seek : (p f d a : Point) (vs : List Point) → signed_area f a p <ℤ pos 0 → Steps (λ v w. signed_area v w p ≤ℤ pos 0) f (a ∷ vs) → FanAt p f d (a ∷ vs) (fan_at p f (a ∷ vs))

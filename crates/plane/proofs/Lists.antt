@@ -5,6 +5,7 @@ use mathlib.Core.Logic.{◌⊎◌, inl, inr, ⊎_elim}
 use mathlib.Core.List.{List, [], ◌∷◌, ◌++◌, map}
 use native.Mathlib.Omega.{arith}
 use lib.ListN.{length, get_or}
+use Rattle.std.proofs.lemmas.List.{get_or-map}
 use Rattle.plane.specs.Members.{All, none, ◌&◌, ◌∈◌, here, there}
 
 pub first : {A : Type 0} {P : A → Type 0} {x : A} {l : List A} → All P (x ∷ l) → P x
@@ -50,15 +51,23 @@ pub all_right : {A : Type 0} {P : A → Type 0} (l m : List A) → All P (l ++ m
 all_right [] m h = h
 all_right (y ∷ l) m (h & k) = all_right l m k
 
+-- every element has the one property, or some element has the other
+pub all_or : {A : Type 0} {P Q : A → Type 0} (l : List A) → ((x : A) → x ∈ l → P x ⊎ Q x) → All P l ⊎ ((x : A) × (x ∈ l) × Q x)
+all_or [] f = inl none
+all_or {A} {P} {Q} (x ∷ l) f = go (f x (here refl)) (all_or l (λ y m. f y (there m)))
+  where
+    go : P x ⊎ Q x → All P l ⊎ ((y : A) × (y ∈ l) × Q y) → All P (x ∷ l) ⊎ ((y : A) × (y ∈ (x ∷ l)) × Q y)
+    go (inl h) (inl k) = inl (h & k)
+    go (inl h) (inr r) = inr (r.0, there r.1, r.2)
+    go (inr h) k = inr (x, here refl, h)
+
 pub in_map : {A B : Type 0} {x : A} {l : List A} (f : A → B) → x ∈ l → f x ∈ map f l
 in_map f (here e) = here (ap f e)
 in_map f (there m) = there (in_map f m)
 
 -- an element of a mapped list, whatever stands for those past the end
 pub map_at : {A B : Type 0} (f : A → B) (d : A) (e : B) (l : List A) (i : ℕ) → i < length l → get_or (map f l) i e ≡ f (get_or l i d)
-map_at f d e [] i h = absurd (omega arith)
-map_at f d e (x ∷ l) zero h = refl
-map_at f d e (x ∷ l) (suc i) h = map_at f d e l i (omega arith)
+map_at f d e l i h = get_or-map f l i d e h
 
 -- in which of two lists
 pub in_append : {A : Type 0} {x : A} (l m : List A) → x ∈ (l ++ m) → (x ∈ l) ⊎ (x ∈ m)

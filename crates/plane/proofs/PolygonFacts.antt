@@ -1,7 +1,7 @@
 -- What makes a listing the polygon of some points. With three or more vertices: they are of the points, distinct, turn strictly right at each, and have every
 -- point right of each side or on it. Then a vertex is extreme, since the direction across its two neighbours has every other point strictly behind it; and a point that is no
 -- vertex is in the hull of the vertices by the fan. The cases of one vertex and two are below. Assumes nothing.
-use mathlib.Core.Path.{◌≡◌, refl, sym, ap}
+use mathlib.Core.Path.{◌≡◌, refl, sym, ap, subst}
 use mathlib.Core.Logic.{◌⊎◌, inl, inr, ⊎_elim}
 use mathlib.Core.List.{List, [], ◌∷◌, map}
 use native.Mathlib.Omega.{arith}
@@ -17,7 +17,7 @@ use Rattle.plane.specs.Members.{All, none, ◌&◌, ◌∈◌, here, there}
 use Rattle.plane.specs.Vectors.{from, along, Balanced}
 use Rattle.plane.specs.Polygons.{AllRight, Other, Extreme, Distinct, Steps, Clockwise, Polygon}
 use Rattle.plane.proofs.Twins.{signed_areaᴱ, pt, fromᴱ, alongᴱ}
-use Rattle.plane.proofs.Lists.{first, rest, all_at, all_of, all_imp, all_map}
+use Rattle.plane.proofs.Lists.{first, rest, all_at, all_of, all_imp, all_map, all_or}
 use Rattle.plane.proofs.Combos.{separated_not_balanced, balanced₂}
 use Rattle.plane.proofs.Sides.{point_ext, dot_productᴱ}
 use Rattle.plane.proofs.Winding.{length_pos}
@@ -34,13 +34,8 @@ same_point p q = go (ℤ_discrete p.east q.east) (ℤ_discrete p.north q.north)
     go (no e) f = no (λ z. e (ap (λ (r : Point). r.east) z))
 
 pub listed_or_not : (p : Point) (vs : List Point) → (p ∈ vs) ⊎ All (λ v. v ≡ p → ⊥) vs
-listed_or_not p [] = inr none
-listed_or_not p (v ∷ vs) = go (same_point v p) (listed_or_not p vs)
-  where
-    go : Dec (v ≡ p) → (p ∈ vs) ⊎ All (λ v. v ≡ p → ⊥) vs → (p ∈ (v ∷ vs)) ⊎ All (λ v. v ≡ p → ⊥) (v ∷ vs)
-    go (yes e) r = inl (here (sym e))
-    go (no e) (inl m) = inl (there m)
-    go (no e) (inr h) = inr (e & h)
+listed_or_not p vs =
+    ⊎_elim inr (λ r. inl (subst (λ q. q ∈ vs) r.2 r.1)) (all_or {P = λ v. v ≡ p → ⊥} vs (λ v m. elim (same_point v p) [ yes e ↦ inr e | no n ↦ inl n ]))
 
 -- ---- a vertex is extreme
 

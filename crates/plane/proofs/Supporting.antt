@@ -1,6 +1,6 @@
 -- Whether some direction supports a list of vectors can be told from the vectors themselves: if one does, then, unless all vectors are zero, one of them
 -- has all the others on one side of its line, or on it. Assumes nothing.
-use mathlib.Core.Path.{◌≡◌, refl, subst}
+use mathlib.Core.Path.{◌≡◌, refl}
 use mathlib.Core.Logic.{◌⊎◌, inl, inr, ⊎_elim}
 use mathlib.Core.List.{List, [], ◌∷◌}
 use native.Mathlib.Omega.{arith}
@@ -13,7 +13,7 @@ use Rattle.integers.proofs.Order.{lt_or_ge, <→≤, ≤-antisym, mul_zero, ≤-
 use Rattle.plane.specs.declared.Point.{Point}
 use Rattle.plane.specs.Members.{All, none, ◌&◌, ◌∈◌, here, there}
 use Rattle.plane.specs.Vectors.{along, Supported}
-use Rattle.plane.proofs.Lists.{first, rest, all_imp, all_both}
+use Rattle.plane.proofs.Lists.{all_at, all_imp, all_both, all_or}
 use Rattle.plane.proofs.Twins.{pt, alongᴱ, det, detᴱ}
 use Rattle.plane.proofs.Winding.{length_pos}
 use Rattle.plane.proofs.Alternative.{zero_or_not}
@@ -52,18 +52,14 @@ module _ (a b : ℤ) (l : pos 0 <ℤ (a *ℤ a +ℤ b *ℤ b)) where
   Behind v = along a b v ≤ℤ pos 0
 
   -- all zero or strictly behind, or some vector on the line that is not zero
-  on_line : (vs : List Point) → All Behind vs → All (λ v. Zero v ⊎ (along a b v <ℤ pos 0)) vs ⊎ ((v : Point) × (v ∈ vs) × (along a b v ≡ pos 0) × (Zero v → ⊥))
-  on_line [] h = inl none
-  on_line (v ∷ vs) (h & hs) = go (lt_or_ge (along a b v) (pos 0)) (zero_or_not v) (on_line vs hs)
+  on_line : (vs : List Point) → All Behind vs → All (λ v. Zero v ⊎ (along a b v <ℤ pos 0)) vs ⊎ ((v : Point) × (v ∈ vs) × ((along a b v ≡ pos 0) × (Zero v → ⊥)))
+  on_line vs h = all_or vs (λ v m. go v m (lt_or_ge (along a b v) (pos 0)) (zero_or_not v))
     where
-      go : (along a b v <ℤ pos 0) ⊎ (pos 0 ≤ℤ along a b v) → Zero v ⊎ (Zero v → ⊥)
-          → All (λ v. Zero v ⊎ (along a b v <ℤ pos 0)) vs ⊎ ((v : Point) × (v ∈ vs) × (along a b v ≡ pos 0) × (Zero v → ⊥))
-          → All (λ v. Zero v ⊎ (along a b v <ℤ pos 0)) (v ∷ vs) ⊎ ((u : Point) × (u ∈ (v ∷ vs)) × (along a b u ≡ pos 0) × (Zero u → ⊥))
-      go (inl k) z (inl r) = inl (inr k & r)
-      go (inr k) (inl z) (inl r) = inl (inl z & r)
-      go (inr k) (inr z) r = inr (v, here refl, ≤-antisym h k, z)
-      go (inl k) z (inr r) = inr (r.0, there r.1, r.2, r.3)
-      go (inr k) (inl z) (inr r) = inr (r.0, there r.1, r.2, r.3)
+      go : (v : Point) → v ∈ vs → (along a b v <ℤ pos 0) ⊎ (pos 0 ≤ℤ along a b v) → Zero v ⊎ (Zero v → ⊥)
+          → (Zero v ⊎ (along a b v <ℤ pos 0)) ⊎ ((along a b v ≡ pos 0) × (Zero v → ⊥))
+      go v m (inl k) z = inl (inr k)
+      go v m (inr k) (inl z) = inl (inl z)
+      go v m (inr k) (inr z) = inr (≤-antisym (all_at h m) k, z)
 
   -- one on the line, v = c (−b, a) / |u|², has the others on its side: [v x] |u|² = − c (u·x)
   edge_on_line : (vs : List Point) (v : Point) → All Behind vs → along a b v ≡ pos 0 → (Zero v → ⊥) → Edge (pos 1) vs v ⊎ Edge (negsuc 0) vs v
@@ -125,35 +121,19 @@ module _ (a b : ℤ) (l : pos 0 <ℤ (a *ℤ a +ℤ b *ℤ b)) where
       not_zero : (v : Point) → along a b v <ℤ pos 0 → Zero v → ⊥
       not_zero v k z = cert 1 2 (λ v a b. alongᴱ a b v ≺ # 0 ⟹ v.0 ≐ # 0 ⟹ v.1 ≐ # 0 ⟹ bot ∵ hyp 0 ⊞ eqn 1 (⊝ a) ⊞ eqn 2 (⊝ b)) tt (pt v) a b k z.0 z.1
 
-      go : All (λ v. Zero v ⊎ (along a b v <ℤ pos 0)) vs ⊎ ((v : Point) × (v ∈ vs) × (along a b v ≡ pos 0) × (Zero v → ⊥))
+      go : All (λ v. Zero v ⊎ (along a b v <ℤ pos 0)) vs ⊎ ((v : Point) × (v ∈ vs) × ((along a b v ≡ pos 0) × (Zero v → ⊥)))
           → All Zero vs ⊎ ((v : Point) × (v ∈ vs) × (Edge (pos 1) vs v ⊎ Edge (negsuc 0) vs v))
-      go (inr r) = inr (r.0, r.1, edge_on_line vs r.0 h r.2 r.3)
+      go (inr r) = inr (r.0, r.1, edge_on_line vs r.0 h r.2.0 r.2.1)
       go (inl k) = ⊎_elim inl (λ r. inr (r.0, r.1, inl (not_zero r.0 r.2, r.3))) (rightmost vs k)
 
 -- ---- so support is decided
 
 -- a test of every element
 some_or_none : {P : Point → Type 0} → ((v : Point) → Dec (P v)) → (l : List Point) → ((v : Point) × (v ∈ l) × P v) ⊎ ((v : Point) → v ∈ l → P v → ⊥)
-some_or_none d [] = inr (λ v m. elim m [ ])
-some_or_none {P} d (x ∷ l) = go (d x) (some_or_none d l)
-  where
-    none_of : (P x → ⊥) → ((v : Point) → v ∈ l → P v → ⊥) → (v : Point) → v ∈ (x ∷ l) → P v → ⊥
-    none_of n r v (here e) h = n (subst P e h)
-    none_of n r v (there m) h = r v m h
-
-    go : Dec (P x) → ((v : Point) × (v ∈ l) × P v) ⊎ ((v : Point) → v ∈ l → P v → ⊥) → ((v : Point) × (v ∈ (x ∷ l)) × P v) ⊎ ((v : Point) → v ∈ (x ∷ l) → P v → ⊥)
-    go (yes h) r = inl (x, here refl, h)
-    go (no n) (inl r) = inl (r.0, there r.1, r.2)
-    go (no n) (inr r) = inr (none_of n r)
+some_or_none {P} d l = ⊎_elim (λ h. inr (λ v m. all_at h m)) inl (all_or {P = λ v. P v → ⊥} l (λ v m. elim (d v) [ yes h ↦ inr h | no n ↦ inl n ]))
 
 all_dec : {P : Point → Type 0} → ((v : Point) → Dec (P v)) → (l : List Point) → Dec (All P l)
-all_dec d [] = yes none
-all_dec {P} d (x ∷ l) = go (d x) (all_dec d l)
-  where
-    go : Dec (P x) → Dec (All P l) → Dec (All P (x ∷ l))
-    go (yes h) (yes k) = yes (h & k)
-    go (yes h) (no k) = no (λ r. k (rest r))
-    go (no h) k = no (λ r. h (first r))
+all_dec {P} d l = ⊎_elim yes (λ r. no (λ h. r.2 (all_at h r.1))) (all_or {P = P} {Q = λ v. P v → ⊥} l (λ v m. elim (d v) [ yes h ↦ inl h | no n ↦ inr n ]))
 
 edge_dec : (s : ℤ) (vs : List Point) (v : Point) → Dec (Edge s vs v)
 edge_dec s vs v = go (zero_or_not v) (all_dec {P = λ x. pos 0 ≤ℤ (s *ℤ det v x)} (λ x. ≤-dec (pos 0) (s *ℤ det v x)) vs)

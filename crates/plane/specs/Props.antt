@@ -1,5 +1,5 @@
 -- Facts of every element have one proof at most, if each element's has: for ghost fields.
-use Rattle.std.specs.Prelude.{◌≡◌, refl, List, [], ◌∷◌}
+use Rattle.std.specs.Prelude.{refl, List, [], ◌∷◌}
 use mathlib.Core.Path.{ap₂}
 use Rattle.plane.specs.Members.{All, ◌&◌}
 

@@ -66,6 +66,10 @@ pub record Sofar (vertices : List ℕ) (counts : RoundCounts) (before : ℕ) (pl
       → written ++ plug_lines (before + k + 1) bs (plugs_of (drop (k * 2) plugs)) ≡ plug_lines (before + 1) bs (plugs_of plugs)
 
 module _ (vertices : List ℕ) (counts : RoundCounts) (before : ℕ) (plugs : List ℤ) (entry : List ℕ) (room : RoomBehind before plugs entry) where
+  -- no line is written
+  pub sofar_none : Sofar vertices counts before plugs entry 0 0 entry
+  sofar_none = record { within = omega arith; written = []; wrote = wrote_none entry; few = omega arith; rest = λ bs os f. ap (λ n. plug_lines (n + 1) bs (plugs_of plugs)) (add-zero before) }
+
   module _ {k done : ℕ} {out : List ℕ} (i : Sofar vertices counts before plugs entry k done out) where
     -- the buffer's length, and room for one line more
     pub sofar_length : length out ≡ length entry

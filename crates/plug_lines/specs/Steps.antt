@@ -47,7 +47,3 @@ pub record LineBy (vertices : List ℕ) (counts : RoundCounts) (number : ℕ) (p
 -- the lines of a plug list, behind so many plugs, were written, for all ordered boxes whose polygons they are
 pub record LinesBehind (vertices : List ℕ) (counts : RoundCounts) (before : ℕ) (plugs : List ℤ) (entry : List ℕ) (count : ℕ) (exit : List ℕ) : Type 0 where
   pub says : (bs : List Box) → All Ordered bs → RoundPolygons bs vertices counts → Wrote (plug_lines (before + 1) bs (plugs_of plugs)) entry count exit
-
--- the lines of a plug list were written, for all ordered boxes whose polygons they are
-pub record LinesBy (vertices : List ℕ) (counts : RoundCounts) (plugs : List ℤ) (entry : List ℕ) (count : ℕ) (exit : List ℕ) : Type 0 where
-  pub says : (bs : List Box) → All Ordered bs → RoundPolygons bs vertices counts → Wrote (plug_lines 1 bs (plugs_of plugs)) entry count exit

@@ -1,6 +1,6 @@
 // The plugs' lines of the printing program (docs/SCOPE.md 8.2): the polygons of the round once, then plug by plug.
 //
-// Each step writes at the front of what it is lent, returns how much it wrote, and leaves the remainder as it was.
+// No heap: each step writes at the front of what it is lent, returns how much it wrote, and leaves the rest as it was.
 #![tactic(auto)]
 
 ghost use Rattle.std.specs.Prelude.{◌+◌, ◌*◌, ◌/◌, ◌≤◌, length};
@@ -17,24 +17,23 @@ use outlines::MOST_KEYS;
 use plane::Point;
 use plug_words::RoundShapes;
 use rounds::{Refusal, Word};
+use turns::Key;
 use words::Polygons;
 
 // The most vertices of the five polygons of a round.
 pub const MOST_VERTICES: usize = 8192;
 
-// Writes a word after a plug's number: as bytes, since a sink for the word's Display would be longer than this match.
+// Writes a word after a plug's number.
 fn write_word(word: Word, out: &mut [u8]) -> usize
     requires { most_after_number ≤ length out.old }
     ensures { Wrote (after_number (replied word)) out.old result out.new }
 {
-    match word {
-        Word::Inside => texts::write_bytes(b" inside\n", out),
-        Word::Outside => texts::write_bytes(b" outside\n", out),
-        Word::Undecided => texts::write_bytes(b" undecided\n", out),
-    }
+    let n = texts::write_bytes(b" ", out);
+    let m = n + texts::write_bytes(word.name().as_bytes(), &mut out[n..]);
+    m + texts::write_bytes(b"\n", &mut out[m..])
 }
 
-// Writes what stands after a plug's number.
+// Writes what stands after a plug's number. A plug is refused by one cause alone, so its line is written out.
 fn write_reply(reply: Result<Word, Refusal>, out: &mut [u8]) -> usize
     requires { most_after_number ≤ length out.old }
     ensures { Wrote (after_number (reply_of reply)) out.old result out.new }
@@ -74,18 +73,19 @@ pub fn write_lines(shapes: RoundShapes, before: usize, plugs: &[i32], out: &mut 
 }
 
 // The polygons of accepted boxes, made once for all plugs, at the front of vertices.
-fn make_polygons<'a>(boxes: Boxes, vertices: &'a mut [u32]) -> Polygons<'a>
+#[tactic(auto, using(turns::proofs::Parts::least_key))]
+fn make_polygons<'a>(boxes: Boxes, vertices: &'a mut [Key]) -> Polygons<'a>
     requires { 8 * (length boxes.numbers.now / 4) ≤ length vertices.old }
     ensures { RoundPolygons (boxes_of boxes.entry.numbers.now) result.vertices.now result.counts }
 {
-    let mut keys = [0u32; MOST_KEYS];
-    let mut mirror = [0u32; MOST_KEYS];
+    let mut keys = [Key::LEAST; MOST_KEYS];
+    let mut mirror = [Key::LEAST; MOST_KEYS];
     let counts = outlines::round_outlines(boxes, vertices, &mut keys, &mut mirror);
     Polygons { vertices, counts }
 }
 
 // The polygons of accepted boxes, made once for so many plugs, with a box in which every plug is inside.
-pub fn make_shapes<'a>(boxes: Boxes, plugs: usize, vertices: &'a mut [u32]) -> RoundShapes<'a>
+pub fn make_shapes<'a>(boxes: Boxes, plugs: usize, vertices: &'a mut [Key]) -> RoundShapes<'a>
     requires { 8 * (length boxes.numbers.now / 4) ≤ length vertices.old }
     ensures { ShapesOf (boxes_of boxes.entry.numbers.now) result }
 {
@@ -97,13 +97,14 @@ pub fn make_shapes<'a>(boxes: Boxes, plugs: usize, vertices: &'a mut [u32]) -> R
 }
 
 // Writes the line of each plug. The polygons of the boxes are made once.
+#[tactic(auto, using(turns::proofs::Parts::least_key))]
 pub fn write_plug_lines(boxes: Boxes, plugs: &[i32], out: &mut [u8]) -> usize
     requires { LineRoom 0 plugs.now out.old }
     ensures { Wrote
         (plug_lines 1 (boxes_of boxes.entry.numbers.now) (plugs_of plugs.now))
         out.old result out.new }
 {
-    let mut vertices = [0u32; MOST_VERTICES];
+    let mut vertices = [Key::LEAST; MOST_VERTICES];
     let shapes = make_shapes(boxes, plugs.len() / 2, &mut vertices);
     write_lines(shapes, 0, plugs, out)
 }

@@ -4,12 +4,12 @@
 
 ghost use Rattle.std.specs.Prelude.{◌≡◌, true, IfSome};
 ghost use Rattle.std.proofs.Props.{props};
-ghost use mathlib.Core.Sum.{⊎_set};
 ghost use Rattle.rounds.specs.Picks.{InBox};
 ghost use Rattle.plug_words.specs.Plugs.{WordBy, Sure};
 
 use plane::Point;
 use rounds::{Box, Refusal, Word};
+use turns::Key;
 use words::Polygons;
 
 // What the plugs of a round are judged by: its polygons, and a box in which every plug is inside, where one is known.
@@ -17,7 +17,7 @@ use words::Polygons;
 pub struct RoundShapes<'a> {
     pub polygons: Polygons<'a>,
     pub sure: Option<Box>,
-    ghost inside: { IfSome sure (Sure polygons.vertices.now polygons.counts) } by { Prim.hlevel (props, ⊎_set) },
+    ghost inside: { IfSome sure (Sure polygons.vertices.now polygons.counts) } by { Prim.hlevel props },
 }
 
 // The word of a plug against the polygons of a round, or its refusal.
@@ -25,7 +25,7 @@ pub fn word_by(polygons: Polygons, plug: Point) -> Result<Word, Refusal>
     ensures { WordBy polygons.entry.vertices.now polygons.entry.counts plug result }
 {
     checks::check_plug(plug, 1)?;
-    Ok(words::word_in(polygons, turns::key_of(plug)))
+    Ok(words::word_in(polygons, Key::new(plug)))
 }
 
 // Whether a box holds a point, its edges included: one test of all four edges, since no single one can be foretold.

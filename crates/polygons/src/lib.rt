@@ -11,6 +11,7 @@ ghost use Rattle.polygons.specs.Written.{PolygonWritten, TwoWritten, CornersWrit
 use boxes::Boxes;
 use outlines::MOST_KEYS;
 use rounds::{Corner, MOST_BOXES};
+use turns::Key;
 
 // Scratch has one of three sizes, so that few boxes zero little of it: for these many boxes, for these, and for the
 // most that a round has.
@@ -44,9 +45,9 @@ pub struct VertexCounts {
 fn write_outer_in(
     boxes: Boxes,
     answer: &mut [i32],
-    vertices: &mut [u32],
-    keys: &mut [u32],
-    list: &mut [u32],
+    vertices: &mut [Key],
+    keys: &mut [Key],
+    list: &mut [Key],
 ) -> usize
     requires answer_room { length boxes.numbers.now * 2 ≤ length answer.old }
     requires outer_room { OuterRoom (length boxes.numbers.now / 4) vertices.old keys.old list.old }
@@ -59,6 +60,7 @@ fn write_outer_in(
 }
 
 // Writes the outer polygon over the front of answer, in scratch of these sizes.
+#[tactic(auto, using(turns::proofs::Parts::least_key))]
 fn write_outer_sized<const VERTICES: usize, const KEYS: usize>(
     boxes: Boxes,
     answer: &mut [i32],
@@ -69,9 +71,9 @@ fn write_outer_sized<const VERTICES: usize, const KEYS: usize>(
     ensures { PolygonWritten
         (all_corners (boxes_of boxes.entry.numbers.now)) 0 answer.old result answer.new }
 {
-    let mut vertices = [0u32; VERTICES];
-    let mut keys = [0u32; KEYS];
-    let mut list = [0u32; KEYS];
+    let mut vertices = [Key::LEAST; VERTICES];
+    let mut keys = [Key::LEAST; KEYS];
+    let mut list = [Key::LEAST; KEYS];
     write_outer_in(boxes, answer, &mut vertices, &mut keys, &mut list)
 }
 
@@ -94,9 +96,9 @@ pub fn write_outer(boxes: Boxes, answer: &mut [i32]) -> usize
 // Scratch for the corner polygons of so many boxes. What it holds is lost at each call.
 #[derive(Drop)]
 struct Scratch<const SIZE: usize> {
-    vertices: [u32; SIZE],
-    keys: [u32; SIZE],
-    mirror: [u32; SIZE],
+    vertices: [Key; SIZE],
+    keys: [Key; SIZE],
+    mirror: [Key; SIZE],
 }
 
 impl<const SIZE: usize> Scratch<SIZE> {
@@ -163,16 +165,16 @@ impl<const SIZE: usize> Scratch<SIZE> {
 }
 
 // Writes the corner polygons one behind another over the front of answer, in scratch of that size.
-#[tactic(auto, using(corners::proofs::Places::corners_length))]
+#[tactic(auto, using(corners::proofs::Places::corners_length, turns::proofs::Parts::least_key))]
 fn write_corners_sized<const SIZE: usize>(boxes: Boxes, answer: &mut [i32]) -> VertexCounts
     requires size { (length boxes.numbers.now / 4 ≤ SIZE) × (SIZE < 2 ^ 32) }
     requires answer_room { needed boxes.numbers.now ≤ length answer.old }
     ensures { CornersWritten (boxes_of boxes.entry.numbers.now) answer.old result answer.new }
 {
     let mut scratch = Scratch::<SIZE> {
-        vertices: [0; SIZE],
-        keys: [0; SIZE],
-        mirror: [0; SIZE],
+        vertices: [Key::LEAST; SIZE],
+        keys: [Key::LEAST; SIZE],
+        mirror: [Key::LEAST; SIZE],
     };
     let (southwest, southeast) = scratch.append_two_corners(
         boxes,
@@ -197,7 +199,8 @@ fn write_corners_sized<const SIZE: usize>(boxes: Boxes, answer: &mut [i32]) -> V
     }
 }
 
-// Writes the corner polygons one behind another over the front of answer.
+// Writes the corner polygons one behind another over the front of answer. (The sizes are chosen as in write_outer: they
+// are const parameters, so that one chooser for both would take each call as a closure.)
 pub fn write_corners(boxes: Boxes, answer: &mut [i32]) -> VertexCounts
     requires { needed boxes.numbers.now ≤ length answer.old }
     ensures { CornersWritten (boxes_of boxes.entry.numbers.now) answer.old result answer.new }

@@ -3,10 +3,8 @@ use Rattle.std.specs.Prelude.{Option, Some, None}
 use Rattle.std.specs.Io.KnownBytes.{Appends}
 use Rattle.std.proofs.Common.{◌≡◌, ℕ, List, ◌++◌, length, take, drop, sym, ◌∙◌, ap, subst, append_assoc}
 use Rattle.std.proofs.Math.Seq.{take-append_seam}
-use Rattle.std.proofs.lemmas.List.{append-nil}
 use Rattle.texts.specs.Text.{text_of, Wrote}
-use Rattle.text_parts.specs.Steps.{text_left, Opened, NextLines}
-use Rattle.text_parts.specs.declared.Opening.{Opening}
+use Rattle.text_parts.specs.Steps.{text_left, NextLines}
 use Rattle.text_parts.specs.declared.lines_left.LinesLeft.{LinesLeft}
 use Rattle.text_parts.specs.declared.lines_left.Piece.{Piece}
 

@@ -34,8 +34,8 @@ pub keeping_none : (keys : List ℕ) (from to : ℕ) (out : List ℕ) → Keepin
 keeping_none keys from to out = record { i_in = omega arith; few = omega arith; part = part_none (get keys) _ (get out) _ _ }
 
 pub keeping_more : (keys : List ℕ) (from to : ℕ) (old : List ℕ) (i n : ℕ) (new : List ℕ) (m : ℕ) → i < length keys → n < length old → Keeping keys from to old i n
-    → KeptIf from to (get keys i) old n new m → (length new ≡ length old) × Keeping keys from to new (i + 1) m
-keeping_more keys from to old i n new m h k p t = ⊎_elim put left t.kept
+    → (x : ℕ) → x ≡ get keys i → KeptIf from to x old n new m → (length new ≡ length old) × Keeping keys from to new (i + 1) m
+keeping_more keys from to old i n new m h k p x e t = ⊎_elim put left (subst (λ y. KeptIf from to y old n new m) e t).kept
   where
     put : (m ≡ n + 1) × Outside from to (get keys i) × (new ≡ set old n (get keys i)) → (length new ≡ length old) × Keeping keys from to new (i + 1) m
     put z =

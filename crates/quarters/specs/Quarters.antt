@@ -1,6 +1,6 @@
 -- The keys that the upper chain of the corners of boxes is made of. Definitions only.
 use Rattle.std.specs.Prelude.{◌≡◌, ◌⊎◌, List, ℕ, ◌+◌, ◌≤◌, ◌<◌, pos, ◌<ℤ◌, length, set}
-use Rattle.turns.specs.Keys.{Key, AllKeys, north_part}
+use Rattle.turns.specs.Keys.{north_part}
 use Rattle.orders.specs.Order.{get, Sorted}
 use Rattle.chains.specs.Chains.{turn, Amid, Under}
 use Rattle.extremes.specs.Inner.{Among}
@@ -47,13 +47,9 @@ pub record FromTo (l : List ℕ) (first last : ℕ) : Type 0 where
   pub least : (i : ℕ) → i < length l → first ≤ get l i
   pub most : (i : ℕ) → i < length l → get l i ≤ last
 
--- two lists of keys from first to last, and room for them
+-- two lists of numbers from first to last, and room for them
 pub record UpperInput (left right : List ℕ) (first last : ℕ) (out scratch : List ℕ) : Type 0 where
   pub some : 1 ≤ length left
-  pub first_key : Key first
-  pub last_key : Key last
-  pub left_keys : AllKeys (get left) (length left)
-  pub right_keys : AllKeys (get right) (length right)
   pub left_ends : FromTo left first last
   pub right_ends : FromTo right first last
   pub out_room : length left + length right + 1 ≤ length out

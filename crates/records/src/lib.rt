@@ -31,6 +31,7 @@ fn flattened(boxes: &[Box]) -> [i32; MOST_NUMBERS]
     requires { length boxes.now ≤ most_boxes }
     ensures { take (length boxes.now * 4) result ≡ edges_of boxes.now }
 {
+    // By index: of what a `zip` with `chunks_exact_mut` writes, no proof knows anything afterwards.
     let mut flat = [0; MOST_NUMBERS];
     for (i, b) in boxes.iter().enumerate() {
         copy_box(&mut flat, i, *b);

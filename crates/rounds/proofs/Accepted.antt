@@ -1,10 +1,11 @@
 -- A list that no cause of the table turns back is one that polygons and verdicts are worked out of. Assumes nothing.
-use Prim.Native.Nat.{ℕ, ◌+◌, ◌/◌, ◌%◌, ◌≤◌}
+use Prim.Native.Nat.{ℕ, ◌+◌, ◌/◌, ◌%◌}
 use mathlib.Core.Bool.{Bool, true, false, not, ◌||◌}
 use mathlib.Core.Path.{◌≡◌, refl}
 use mathlib.Core.List.{List, [], ◌∷◌}
 use native.Mathlib.Omega.{arith}
 use borrow.Author.Tests.{eqb-true, eqb-false, ltb-false, not-false}
+use Rattle.std.proofs.lemmas.Bool.{or_parts}
 use lib.Dec.{eqb, ltb}
 use lib.ListN.{length}
 use lib.IntN.{ℤ, pos, negsuc}
@@ -22,32 +23,28 @@ use Rattle.rounds.specs.Refusals.{Fault, fault, when, ◌or_else◌, beyond, edg
 -- no fault of two in turn is no fault of either
 pub or_else_none : (f g : Fault) → f or_else g ≡ Fault.none → (f ≡ Fault.none) × (g ≡ Fault.none)
 or_else_none Fault.none g e = (refl, e)
-or_else_none (fault c p) g e = let z : ◌≡◌ {A = ℕ} 0 1 = cc in absurd (omega arith)
+or_else_none (fault c p) g e = absurd (cc)
 
 -- a cause that did not arise
 pub when_none : (b : Bool) (c : Cause) (p : ℕ) → when b c p ≡ Fault.none → b ≡ false
-when_none true c p e = let z : ◌≡◌ {A = ℕ} 0 1 = cc in absurd (omega arith)
+when_none true c p e = absurd (cc)
 when_none false c p e = refl
-
-pub or_false : (b c : Bool) → (b || c) ≡ false → (b ≡ false) × (c ≡ false)
-or_false true c e = let z : ◌≡◌ {A = ℕ} 0 1 = cc in absurd (omega arith)
-or_false false c e = (refl, e)
 
 -- x is in the span
 pub not_beyond : (x : ℤ) → beyond x ≡ false → Upto 16000 x
 unfolding beyond
-not_beyond x e = let r = or_false (lt_z x (negsuc 15999)) (lt_z (pos 16000) x) e in record { low = lt_z_false r.0; high = lt_z_false r.1 }
+not_beyond x e = let r = or_parts (lt_z x (negsuc 15999)) (lt_z (pos 16000) x) e in record { low = lt_z_false r.0; high = lt_z_false r.1 }
 
 pub box_accepted : (k : ℕ) (b : Box) → box_fault k b ≡ Fault.none → Ordered b × BoxInSpan b
 unfolding box_fault edge_beyond edges_reversed
 box_accepted k b e =
     let r = or_else_none (when (edge_beyond b) Cause.EdgeBeyond k) (when (edges_reversed b) Cause.EdgesReversed k) e in
     let far = when_none (edge_beyond b) Cause.EdgeBeyond k r.0 in
-    let w = or_false (beyond b.west) (beyond b.south || (beyond b.east || beyond b.north)) far in
-    let s = or_false (beyond b.south) (beyond b.east || beyond b.north) w.1 in
-    let n = or_false (beyond b.east) (beyond b.north) s.1 in
+    let w = or_parts (beyond b.west) (beyond b.south || (beyond b.east || beyond b.north)) far in
+    let s = or_parts (beyond b.south) (beyond b.east || beyond b.north) w.1 in
+    let n = or_parts (beyond b.east) (beyond b.north) s.1 in
     let back = when_none (edges_reversed b) Cause.EdgesReversed k r.1 in
-    let o = or_false (lt_z b.east b.west) (lt_z b.north b.south) back in (
+    let o = or_parts (lt_z b.east b.west) (lt_z b.north b.south) back in (
       record { across = lt_z_false o.0; upward = lt_z_false o.1 },
       record {
         west = not_beyond b.west w.0;
@@ -91,17 +88,9 @@ accepted l e =
       in_span = each.1;
     }
 
--- so there is a box
-pub accepted_some : (l : List ℤ) → 4 ≤ length l → (b : Box) × (bs : List Box) × (boxes_of l ≡ (b ∷ bs))
-accepted_some [] h = absurd (omega arith)
-accepted_some (w ∷ []) h = absurd (omega arith)
-accepted_some (w ∷ s ∷ []) h = absurd (omega arith)
-accepted_some (w ∷ s ∷ x ∷ []) h = absurd (omega arith)
-accepted_some (w ∷ s ∷ x ∷ n ∷ l) h = (_, boxes_of l, refl)
-
 -- an accepted plug is in the span
 pub plug_accepted : (k : ℕ) (p : Point) → plug_fault k p ≡ Fault.none → InSpan p
 unfolding plug_fault
 plug_accepted k p e =
-    let r = or_false (beyond p.east) (beyond p.north) (when_none (beyond p.east || beyond p.north) Cause.PlugBeyond k e) in
+    let r = or_parts (beyond p.east) (beyond p.north) (when_none (beyond p.east || beyond p.north) Cause.PlugBeyond k e) in
     record { easts = not_beyond p.east r.0; norths = not_beyond p.north r.1 }

@@ -2,6 +2,8 @@
 use mathlib.Core.Bool.{Bool, true, false, not, ◌&&◌, ◌||◌}
 use mathlib.Core.Path.{◌≡◌, sym, subst, subst₂}
 use mathlib.Core.List.{List, [], ◌∷◌, map}
+use mathlib.Core.Logic.{◌⊎◌, inl, inr, ⊎_elim}
+use mir.Facts.{and_yes, yes_and, or_yes}
 use lib.Dec.{T, leb, ltb, leb→le, ltb→lt, T_not}
 use lib.IntN.{ℤ, pos}
 use lib.Signed.{◌<ℤ◌, le_z, lt_z, le_z_yes, lt_z_yes, ≤ℤ_refl}
@@ -26,14 +28,6 @@ use Rattle.rounds.specs.declared.Corner.TheVariants.{SouthWest, SouthEast, North
 use Rattle.rounds.proofs.Corners.{inside_by_corners, outside_by_corners}
 use Rattle.rounds.proofs.Words.{undecided_by}
 
-and_l : (b c : Bool) → T (b && c) → T b
-and_l true c t = tt
-and_l false c t = t
-
-and_r : (b c : Bool) → T (b && c) → T c
-and_r true c t = t
-and_r false c t = absurd t
-
 -- ---- lists
 
 abbrev pub allb : {A : Type 0} → (A → Bool) → List A → Bool
@@ -42,29 +36,25 @@ allb f (x ∷ l) = f x && allb f l
 
 pub all_yes : {A : Type 0} {P : A → Type 0} (f : A → Bool) → ((x : A) → T (f x) → P x) → (l : List A) → T (allb f l) → All P l
 all_yes f g [] t = none
-all_yes f g (x ∷ l) t = g x (and_l (f x) (allb f l) t) & all_yes f g l (and_r (f x) (allb f l) t)
+all_yes f g (x ∷ l) t = g x (and_yes (f x) (allb f l) t).0 & all_yes f g l (and_yes (f x) (allb f l) t).1
 
 abbrev pub same_z : ℤ → ℤ → Bool
 same_z x y = le_z x y && le_z y x
 
 same_z_yes : (x y : ℤ) → T (same_z x y) → x ≡ y
-same_z_yes x y t = ≤-antisym (le_z_yes (and_l (le_z x y) (le_z y x) t)) (le_z_yes (and_r (le_z x y) (le_z y x) t))
+same_z_yes x y t = ≤-antisym (le_z_yes (and_yes (le_z x y) (le_z y x) t).0) (le_z_yes (and_yes (le_z x y) (le_z y x) t).1)
 
 abbrev pub same : Point → Point → Bool
 same p q = same_z p.east q.east && same_z p.north q.north
 
 same_yes : (p q : Point) → T (same p q) → p ≡ q
-same_yes p q t = point_ext (same_z_yes _ _ (and_l (same_z p.east q.east) _ t)) (same_z_yes _ _ (and_r (same_z p.east q.east) _ t))
+same_yes p q t = point_ext (same_z_yes _ _ (and_yes (same_z p.east q.east) _ t).0) (same_z_yes _ _ (and_yes (same_z p.east q.east) _ t).1)
 
 same_no : (p q : Point) → (p ≡ q) → T (same p q)
-same_no p q e = subst (λ r. T (same p r)) e (and_i (same_z p.east p.east) _ (refl_yes p.east) (refl_yes p.north))
+same_no p q e = subst (λ r. T (same p r)) e (yes_and (same_z p.east p.east) _ (refl_yes p.east) (refl_yes p.north))
   where
-    and_i : (b c : Bool) → T b → T c → T (b && c)
-    and_i true c s t = t
-    and_i false c s t = s
-
     refl_yes : (x : ℤ) → T (same_z x x)
-    refl_yes x = and_i (le_z x x) (le_z x x) (≤ℤ_refl x).le (≤ℤ_refl x).le
+    refl_yes x = yes_and (le_z x x) (le_z x x) (≤ℤ_refl x).le (≤ℤ_refl x).le
 
 abbrev pub is_in : Point → List Point → Bool
 is_in p [] = false
@@ -72,23 +62,15 @@ is_in p (q ∷ qs) = same p q || is_in p qs
 
 is_in_yes : (p : Point) (qs : List Point) → T (is_in p qs) → p ∈ qs
 is_in_yes p [] t = absurd t
-is_in_yes p (q ∷ qs) t = go (same p q) t (λ s. same_yes p q s) (λ s. is_in_yes p qs s)
-  where
-    go : (c : Bool) → T (c || is_in p qs) → (T c → p ≡ q) → (T (is_in p qs) → p ∈ qs) → p ∈ (q ∷ qs)
-    go true t f g = here (f tt)
-    go false t f g = there (g t)
+is_in_yes p (q ∷ qs) t = ⊎_elim (λ s. here (same_yes p q s)) (λ s. there (is_in_yes p qs s)) (or_yes (same p q) (is_in p qs) t)
+
+or_of : (b c : Bool) → T b ⊎ T c → T (b || c)
+or_of true c h = tt
+or_of false c h = ⊎_elim absurd (λ t. t) h
 
 is_in_no : (p : Point) (qs : List Point) → p ∈ qs → T (is_in p qs)
-is_in_no p (q ∷ qs) (here e) = go (same p q) (same_no p q e)
-  where
-    go : (c : Bool) → T c → T (c || is_in p qs)
-    go true t = tt
-    go false t = absurd t
-is_in_no p (q ∷ qs) (there m) = go (same p q) (is_in_no p qs m)
-  where
-    go : (c : Bool) → T (is_in p qs) → T (c || is_in p qs)
-    go true t = tt
-    go false t = t
+is_in_no p (q ∷ qs) (here e) = or_of (same p q) (is_in p qs) (inl (same_no p q e))
+is_in_no p (q ∷ qs) (there m) = or_of (same p q) (is_in p qs) (inr (is_in_no p qs m))
 is_in_no p [] x' = elim x' [ ]
 
 -- ---- listings
@@ -101,7 +83,7 @@ stepsb R f (a ∷ b ∷ vs) = R a b && stepsb R f (b ∷ vs)
 steps_yes : (R : Point → Point → Bool) (S : Point → Point → Type 0) → ((a b : Point) → T (R a b) → S a b) → (f : Point) (vs : List Point) → T (stepsb R f vs) → Steps S f vs
 steps_yes R S g f [] t = tt
 steps_yes R S g f (a ∷ []) t = g a f t
-steps_yes R S g f (a ∷ b ∷ vs) t = (g a b (and_l (R a b) (stepsb R f (b ∷ vs)) t), steps_yes R S g f (b ∷ vs) (and_r (R a b) (stepsb R f (b ∷ vs)) t))
+steps_yes R S g f (a ∷ b ∷ vs) t = (g a b (and_yes (R a b) (stepsb R f (b ∷ vs)) t).0, steps_yes R S g f (b ∷ vs) (and_yes (R a b) (stepsb R f (b ∷ vs)) t).1)
 
 -- the plug is strictly right of every side
 abbrev pub windsb : Point → List Point → Bool
@@ -112,8 +94,8 @@ winds_not_supported : (p : Point) (vs qs : List Point) → T (windsb p vs && all
 winds_not_supported p [] qs t = absurd t
 winds_not_supported p (v ∷ vs) qs t =
     winding_within p v vs qs
-    (steps_yes (λ a b. lt_z (signed_area a b p) (pos 0)) (λ a b. signed_area a b p <ℤ pos 0) (λ a b s. lt_z_yes s) v (v ∷ vs) (and_l (windsb p (v ∷ vs)) (allb (λ v. is_in v qs) (v ∷ vs)) t))
-    (all_yes (λ v. is_in v qs) (λ v s. is_in_yes v qs s) (v ∷ vs) (and_r (windsb p (v ∷ vs)) (allb (λ v. is_in v qs) (v ∷ vs)) t))
+    (steps_yes (λ a b. lt_z (signed_area a b p) (pos 0)) (λ a b. signed_area a b p <ℤ pos 0) (λ a b s. lt_z_yes s) v (v ∷ vs) (and_yes (windsb p (v ∷ vs)) (allb (λ v. is_in v qs) (v ∷ vs)) t).0)
+    (all_yes (λ v. is_in v qs) (λ v s. is_in_yes v qs s) (v ∷ vs) (and_yes (windsb p (v ∷ vs)) (allb (λ v. is_in v qs) (v ∷ vs)) t).1)
 
 -- ---- words
 
@@ -141,7 +123,7 @@ orderedb b = le_z b.west b.east && le_z b.south b.north
 pub ordered_yes : (bs : List Box) → T (allb orderedb bs) → All Ordered bs
 ordered_yes bs t =
     all_yes orderedb
-    (λ b s. record { across = le_z_yes (and_l (le_z b.west b.east) (le_z b.south b.north) s); upward = le_z_yes (and_r (le_z b.west b.east) (le_z b.south b.north) s) })
+    (λ b s. record { across = le_z_yes (and_yes (le_z b.west b.east) (le_z b.south b.north) s).0; upward = le_z_yes (and_yes (le_z b.west b.east) (le_z b.south b.north) s).1 })
     bs t
 
 pub first_yes : (bs : List Box) (p : Point) (c : Corner) (a b : ℤ) → T (not (same_z a (pos 0) && same_z b (pos 0))) → T (allb (λ v. le_z (along a b v) (pos 0)) (map (from 1 p) (corners_of c bs))) → FirstReason bs p c a b
@@ -157,8 +139,8 @@ pub second_yes : (bs : List Box) (p : Point) (es : List Entry) → T (allb (λ e
 second_yes bs p es n w e f =
     record {
       named = all_yes (λ e. leb 1 e.number && leb e.number (length bs)) (λ e s. (
-        leb→le 1 e.number (and_l (leb 1 e.number) (leb e.number (length bs)) s),
-        leb→le e.number (length bs) (and_r (leb 1 e.number) (leb e.number (length bs)) s),
+        leb→le 1 e.number (and_yes (leb 1 e.number) (leb e.number (length bs)) s).0,
+        leb→le e.number (length bs) (and_yes (leb 1 e.number) (leb e.number (length bs)) s).1,
       )) es n;
       some_weight = ltb→lt 0 (total (map (λ e. e.weight) es)) w;
       east_sum = same_z_yes (weighted (λ v. v.east) (map (λ e. e.weight) es) (map (λ e. from 1 p (corner_at 1 bs e)) es)) (pos 0) e;
@@ -181,7 +163,7 @@ distinctb (p ∷ ps) = not (is_in p ps) && distinctb ps
 
 distinct_yes : (ps : List Point) → T (distinctb ps) → Distinct ps
 distinct_yes [] t = tt
-distinct_yes (p ∷ ps) t = (λ m. T_not (is_in p ps) (and_l (not (is_in p ps)) (distinctb ps) t) (is_in_no p ps m), distinct_yes ps (and_r (not (is_in p ps)) (distinctb ps) t))
+distinct_yes (p ∷ ps) t = (λ m. T_not (is_in p ps) (and_yes (not (is_in p ps)) (distinctb ps) t).0 (is_in_no p ps m), distinct_yes ps (and_yes (not (is_in p ps)) (distinctb ps) t).1)
 
 abbrev pub turnsb : Point → Point → List Point → Bool
 turnsb f g [] = true
@@ -192,8 +174,8 @@ turnsb f g (a ∷ b ∷ c ∷ vs) = lt_z (signed_area a b c) (pos 0) && turnsb f
 turns_yes : (f g : Point) (vs : List Point) → T (turnsb f g vs) → Turns f g vs
 turns_yes f g [] t = tt
 turns_yes f g (a ∷ []) t = lt_z_yes t
-turns_yes f g (a ∷ b ∷ []) t = (lt_z_yes (and_l (lt_z (signed_area a b f) (pos 0)) (turnsb f g (b ∷ [])) t), turns_yes f g (b ∷ []) (and_r (lt_z (signed_area a b f) (pos 0)) (turnsb f g (b ∷ [])) t))
-turns_yes f g (a ∷ b ∷ c ∷ vs) t = (lt_z_yes (and_l (lt_z (signed_area a b c) (pos 0)) (turnsb f g (b ∷ c ∷ vs)) t), turns_yes f g (b ∷ c ∷ vs) (and_r (lt_z (signed_area a b c) (pos 0)) (turnsb f g (b ∷ c ∷ vs)) t))
+turns_yes f g (a ∷ b ∷ []) t = (lt_z_yes (and_yes (lt_z (signed_area a b f) (pos 0)) (turnsb f g (b ∷ [])) t).0, turns_yes f g (b ∷ []) (and_yes (lt_z (signed_area a b f) (pos 0)) (turnsb f g (b ∷ [])) t).1)
+turns_yes f g (a ∷ b ∷ c ∷ vs) t = (lt_z_yes (and_yes (lt_z (signed_area a b c) (pos 0)) (turnsb f g (b ∷ c ∷ vs)) t).0, turns_yes f g (b ∷ c ∷ vs) (and_yes (lt_z (signed_area a b c) (pos 0)) (turnsb f g (b ∷ c ∷ vs)) t).1)
 
 -- every point is right of the side from a to b, or on it
 abbrev pub sideb : List Point → Point → Point → Bool

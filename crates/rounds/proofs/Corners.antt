@@ -4,11 +4,11 @@ use Prim.Native.Nat.{ℕ, ◌<◌}
 use mathlib.Core.Logic.{◌↔◌}
 use mathlib.Core.List.{List, ◌++◌, map}
 use native.Mathlib.Omega.{arith}
-use lib.Dec.{lt→ltb, lit<}
+use Rattle.std.proofs.lemmas.Int.{ints}
+use lib.Dec.{lit<}
 use lib.IntN.{ℤ, pos, negsuc, ◌*ℤ◌, neg_ℤ}
-use lib.Signed.{◌≤ℤ◌, ◌<ℤ◌, ≤ℤ_refl}
+use lib.Signed.{◌≤ℤ◌, ◌<ℤ◌}
 use Rattle.integers.proofs.Expr.{◌⊕◌, ◌⊖◌, ◌⊗◌, ⊝◌, #◌, ◌≼◌, ◌≺◌, ◌⟹◌}
-use Rattle.integers.proofs.Lin.{lin}
 use Rattle.integers.proofs.Cert.{cert, hyp, ◌⊞◌, ◌⊠◌, ◌∵◌, ◌∵◌÷◌}
 use Rattle.integers.proofs.Order.{pos_nn, ◌≤ᶻ◌}
 use Rattle.plane.specs.declared.Point.{Point}
@@ -43,12 +43,6 @@ lowest (pos a) (negsuc b) = NorthWest
 abbrev pub highest : ℤ → ℤ → Corner
 highest a b = lowest (neg_ℤ a) (neg_ℤ b)
 
-positive_is : {d : ℕ} → 0 < d → pos 0 <ℤ pos d
-positive_is {d} h = record { lt = lt→ltb 0 d h }
-
-negative_is : (n : ℕ) → negsuc n <ℤ pos 0
-negative_is n = record { lt = tt }
-
 -- d times the lowest corner is no farther along than a point of the box over d
 pub low : (d : ℕ) (a b : ℤ) (p : Point) (x : Box) (q : Point) → InBox d x q → pos d *ℤ along a b (from 1 p (corner_of (lowest a b) x)) ≤ᶻ along a b (from d p q)
 low d (pos a) (pos b) p x q w = cert 2 5 (λ p q a b d s t.
@@ -56,13 +50,13 @@ low d (pos a) (pos b) p x q w = cert 2 5 (λ p q a b d s t.
     ∵ hyp 0 ⊠ hyp 2 ⊞ hyp 1 ⊠ hyp 3) tt (pt p) (pt q) (pos a) (pos b) (pos d) x.west x.south (pos_nn a) (pos_nn b) w.from_west w.from_south
 low d (negsuc a) (pos b) p x q w = cert 2 5 (λ p q a b d s t.
     a ≺ # 0 ⟹ # 0 ≼ b ⟹ q.0 ≼ d ⊗ s ⟹ d ⊗ t ≼ q.1 ⟹ d ⊗ alongᴱ a b (fromᴱ p (s, t)) ≼ a ⊗ (q.0 ⊖ d ⊗ p.0) ⊕ b ⊗ (q.1 ⊖ d ⊗ p.1)
-    ∵ hyp 0 ⊠ hyp 2 ⊞ hyp 1 ⊠ hyp 3) tt (pt p) (pt q) (negsuc a) (pos b) (pos d) x.east x.south (negative_is a) (pos_nn b) w.to_east w.from_south
+    ∵ hyp 0 ⊠ hyp 2 ⊞ hyp 1 ⊠ hyp 3) tt (pt p) (pt q) (negsuc a) (pos b) (pos d) x.east x.south (omega (arith, ints)) (pos_nn b) w.to_east w.from_south
 low d (negsuc a) (negsuc b) p x q w = cert 2 5 (λ p q a b d s t.
     a ≺ # 0 ⟹ b ≺ # 0 ⟹ q.0 ≼ d ⊗ s ⟹ q.1 ≼ d ⊗ t ⟹ d ⊗ alongᴱ a b (fromᴱ p (s, t)) ≼ a ⊗ (q.0 ⊖ d ⊗ p.0) ⊕ b ⊗ (q.1 ⊖ d ⊗ p.1)
-    ∵ hyp 0 ⊠ hyp 2 ⊞ hyp 1 ⊠ hyp 3) tt (pt p) (pt q) (negsuc a) (negsuc b) (pos d) x.east x.north (negative_is a) (negative_is b) w.to_east w.to_north
+    ∵ hyp 0 ⊠ hyp 2 ⊞ hyp 1 ⊠ hyp 3) tt (pt p) (pt q) (negsuc a) (negsuc b) (pos d) x.east x.north (omega (arith, ints)) (omega (arith, ints)) w.to_east w.to_north
 low d (pos a) (negsuc b) p x q w = cert 2 5 (λ p q a b d s t.
     # 0 ≼ a ⟹ b ≺ # 0 ⟹ d ⊗ s ≼ q.0 ⟹ q.1 ≼ d ⊗ t ⟹ d ⊗ alongᴱ a b (fromᴱ p (s, t)) ≼ a ⊗ (q.0 ⊖ d ⊗ p.0) ⊕ b ⊗ (q.1 ⊖ d ⊗ p.1)
-    ∵ hyp 0 ⊠ hyp 2 ⊞ hyp 1 ⊠ hyp 3) tt (pt p) (pt q) (pos a) (negsuc b) (pos d) x.west x.north (pos_nn a) (negative_is b) w.from_west w.to_north
+    ∵ hyp 0 ⊠ hyp 2 ⊞ hyp 1 ⊠ hyp 3) tt (pt p) (pt q) (pos a) (negsuc b) (pos d) x.west x.north (pos_nn a) (omega (arith, ints)) w.from_west w.to_north
 
 -- ---- a pick with the plug not strictly inside
 
@@ -70,7 +64,7 @@ behind_corners : (d : ℕ) (a b : ℤ) (p : Point) {bs : List Box} {qs : List Po
     → All (λ v. along a b v ≤ℤ pos 0) (map (from d p) qs) → All (λ v. along a b v ≤ℤ pos 0) (map (from 1 p) (corners_of (lowest a b) bs))
 behind_corners d a b p hd Each.none h = none
 behind_corners d a b p hd (Each.◌&◌ {b = x} {q = q} w ws) (h & hs) =
-    cert 0 3 (λ d x y. # 0 ≺ d ⟹ d ⊗ x ≼ y ⟹ y ≼ # 0 ⟹ x ≼ # 0 ∵ hyp 1 ⊞ hyp 2 ÷ hyp 0) tt (pos d) _ _ (positive_is hd) (low d a b p x q w) h
+    cert 0 3 (λ d x y. # 0 ≺ d ⟹ d ⊗ x ≼ y ⟹ y ≼ # 0 ⟹ x ≼ # 0 ∵ hyp 1 ⊞ hyp 2 ÷ hyp 0) tt (pos d) _ _ (omega (arith, ints)) (low d a b p x q w) h
     & behind_corners d a b p hd ws hs
 
 -- the direction of a pick's reason serves the corner name that is lowest along it
@@ -83,20 +77,10 @@ reason_supported {a = a} {b = b} r = record { a = a; b = b; nonzero = r.nonzero;
 -- ---- the pick of one corner name
 
 pub corner_within : (c : Corner) (x : Box) → Ordered x → InBox 1 x (corner_of c x)
-corner_within c x o = go c
-  where
-    -- s ≤ t, with one side written 1 · s
-    le_l : {s t : ℤ} → s ≤ℤ t → pos 1 *ℤ s ≤ᶻ t
-    le_l {s} {t} = lin 0 2 (λ s t. s ≼ t ⟹ # 1 ⊗ s ≼ t) (omega arith) s t
-
-    le_r : {s t : ℤ} → s ≤ℤ t → s ≤ᶻ pos 1 *ℤ t
-    le_r {s} {t} = lin 0 2 (λ s t. s ≼ t ⟹ s ≼ # 1 ⊗ t) (omega arith) s t
-
-    go : (c : Corner) → InBox 1 x (corner_of c x)
-    go SouthWest = record { from_west = le_l (≤ℤ_refl x.west); to_east = le_r o.across; from_south = le_l (≤ℤ_refl x.south); to_north = le_r o.upward }
-    go SouthEast = record { from_west = le_l o.across; to_east = le_r (≤ℤ_refl x.east); from_south = le_l (≤ℤ_refl x.south); to_north = le_r o.upward }
-    go NorthEast = record { from_west = le_l o.across; to_east = le_r (≤ℤ_refl x.east); from_south = le_l o.upward; to_north = le_r (≤ℤ_refl x.north) }
-    go NorthWest = record { from_west = le_l (≤ℤ_refl x.west); to_east = le_r o.across; from_south = le_l o.upward; to_north = le_r (≤ℤ_refl x.north) }
+corner_within SouthWest x o = record { from_west = omega (arith, ints); to_east = omega (arith, ints); from_south = omega (arith, ints); to_north = omega (arith, ints) }
+corner_within SouthEast x o = record { from_west = omega (arith, ints); to_east = omega (arith, ints); from_south = omega (arith, ints); to_north = omega (arith, ints) }
+corner_within NorthEast x o = record { from_west = omega (arith, ints); to_east = omega (arith, ints); from_south = omega (arith, ints); to_north = omega (arith, ints) }
+corner_within NorthWest x o = record { from_west = omega (arith, ints); to_east = omega (arith, ints); from_south = omega (arith, ints); to_north = omega (arith, ints) }
 
 pub corners_within : (c : Corner) {bs : List Box} → All Ordered bs → Each 1 bs (corners_of c bs)
 corners_within c none = Each.none
@@ -120,7 +104,7 @@ behind_picks d a b p hd Each.none h = none
 behind_picks d a b p hd (Each.◌&◌ {b = x} {q = q} w ws) (h & hs) =
     cert 2 3 (λ v u d a b.
     # 0 ≺ d ⟹ d ⊗ alongᴱ (⊝ a) (⊝ b) v ≼ alongᴱ (⊝ a) (⊝ b) u ⟹ alongᴱ a b v ≺ # 0 ⟹ alongᴱ a b u ≺ # 0 ∵ hyp 1 ⊞ hyp 0 ⊠ hyp 2) tt
-    (pt (from 1 p (corner_of (highest a b) x))) (pt (from d p q)) (pos d) a b (positive_is hd) (low d (neg_ℤ a) (neg_ℤ b) p x q w) h
+    (pt (from 1 p (corner_of (highest a b) x))) (pt (from d p q)) (pos d) a b (omega (arith, ints)) (low d (neg_ℤ a) (neg_ℤ b) p x q w) h
     & behind_picks d a b p hd ws hs
 
 -- one corner name of the list of all corners

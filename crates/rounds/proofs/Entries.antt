@@ -6,20 +6,25 @@ use mathlib.Core.Path.{◌≡◌, refl, sym, ◌∙◌, ap, ap₂, subst}
 use mathlib.Core.Logic.{⊎_elim}
 use mathlib.Core.List.{List, [], ◌∷◌, ◌++◌, map}
 use native.Mathlib.Omega.{arith}
-use lib.Dec.{T, eqb, eqb→eq, eqb_refl, ltb→lt, lt→ltb, lit<}
-use lib.IntN.{ℤ, pos, ◌+ℤ◌, ◌*ℤ◌, ◌-ℤ◌, nat_abs}
-use lib.Signed.{◌≤ℤ◌, ≤ℤ_refl}
-use lib.ListN.{length}
+use Rattle.std.proofs.lemmas.Int.{ints}
+use Rattle.std.proofs.lemmas.Bool.Decides.{nat_tests, eqb_tells}
+use Rattle.std.proofs.Math.Nat.{mul-lt-mul_of_pos_right}
+use borrow.Author.Tests.{eq-eqb, ne_eqb}
+use lib.Dec.{eqb, lit<}
+use lib.IntN.{ℤ, pos, ◌+ℤ◌, ◌*ℤ◌, ◌-ℤ◌}
+use lib.Signed.{◌≤ℤ◌}
+use lib.ListN.{length, length-map}
 use Rattle.integers.proofs.Expr.{◌⊕◌, ◌⊖◌, ◌⊗◌, ⊝◌, #◌, ◌≼◌, ◌≐◌, ◌⟹◌}
 use Rattle.integers.proofs.Lin.{lin}
 use Rattle.integers.proofs.Ring.{ring}
 use Rattle.integers.proofs.Cert.{cert, hyp, num, eqn, ◌⊞◌, ◌⊠◌, ◌∵◌}
-use Rattle.integers.proofs.Order.{pos_nn, mul_pos, ◌≤ᶻ◌}
+use Rattle.integers.proofs.Order.{pos_nn, ◌≤ᶻ◌}
 use Rattle.plane.specs.declared.Point.{Point}
 use Rattle.plane.specs.Members.{All, none, ◌&◌, ◌∈◌, here, there}
 use Rattle.plane.specs.Vectors.{from, total, weighted, Balanced}
 use Rattle.plane.proofs.Lists.{in_append}
 use Rattle.rounds.specs.Boxes.{Ordered, corner_of, corners_of, all_corners}
+use Rattle.rounds.proofs.Corners.{corner_within}
 use Rattle.rounds.specs.declared.Box.{Box}
 use Rattle.rounds.specs.Picks.{InBox, Each, Pick}
 use Rattle.rounds.specs.Reasons.{corner_at, SecondReason, weight_at, sum_at, Chosen, mean, south_west}
@@ -47,14 +52,11 @@ one_sum f e n (b ∷ bs) = cond (eqb n e.number) (pos e.weight *ℤ f (corner_of
 
 boxes_sum_nil : (f : Point → ℤ) (n : ℕ) (bs : List Box) → boxes_sum f [] n bs ≡ pos 0
 boxes_sum_nil f n [] = refl
-boxes_sum_nil f n (b ∷ bs) = lin 0 1 (λ s. s ≐ # 0 ⟹ # 0 ⊕ s ≐ # 0) (omega arith) _ (boxes_sum_nil f (suc n) bs)
+boxes_sum_nil f n (b ∷ bs) = omega (arith, ints, boxes_sum_nil f (suc n) bs)
 
 boxes_sum_cons : (f : Point → ℤ) (e : Entry) (es : List Entry) (n : ℕ) (bs : List Box) → boxes_sum f (e ∷ es) n bs ≡ one_sum f e n bs +ℤ boxes_sum f es n bs
 boxes_sum_cons f e es n [] = refl
-boxes_sum_cons f e es n (b ∷ bs) =
-    lin 0 5 (λ x s y t r. r ≐ y ⊕ t ⟹ x ⊕ s ⊕ r ≐ (x ⊕ y) ⊕ (s ⊕ t)) (omega arith)
-    (cond (eqb n e.number) (pos e.weight *ℤ f (corner_of e.corner b)) (pos 0)) (sum_at f es n b) (one_sum f e (suc n) bs) (boxes_sum f es (suc n) bs) _
-    (boxes_sum_cons f e es (suc n) bs)
+boxes_sum_cons f e es n (b ∷ bs) = omega (arith, ints, boxes_sum_cons f e es (suc n) bs)
 
 -- what the test of two numbers says
 pub data Test (m n : ℕ) : Bool → Type 0 where
@@ -62,31 +64,16 @@ pub data Test (m n : ℕ) : Bool → Type 0 where
   unequal : (m ≡ n → ⊥) → Test m n false
 
 pub test : (m n : ℕ) → Test m n (eqb m n)
-test m n = go (eqb m n) (λ t. eqb→eq m n t) (λ e. subst (λ k. T (eqb m k)) e (eqb_refl m))
-  where
-    go : (c : Bool) → (T c → m ≡ n) → (m ≡ n → T c) → Test m n c
-    go true f g = equal (f tt)
-    go false f g = unequal g
+test m n = ⊎_elim (λ r. subst (Test m n) (sym r.0) (equal r.1)) (λ r. subst (Test m n) (sym r.0) (unequal r.1)) (eqb_tells m n)
 
 -- a number that the list has passed
 one_sum_passed : (f : Point → ℤ) (e : Entry) (n : ℕ) (bs : List Box) → e.number < n → one_sum f e n bs ≡ pos 0
 one_sum_passed f e n [] h = refl
-one_sum_passed f e n (b ∷ bs) h = go (test n e.number) (one_sum_passed f e (suc n) bs (omega arith))
-  where
-    go : {c : Bool} → Test n e.number c → one_sum f e (suc n) bs ≡ pos 0 → cond c (pos e.weight *ℤ f (corner_of e.corner b)) (pos 0) +ℤ one_sum f e (suc n) bs ≡ pos 0
-    go (equal g) r = absurd (omega arith)
-    go (unequal g) r = lin 0 1 (λ s. s ≐ # 0 ⟹ # 0 ⊕ s ≐ # 0) (omega arith) (one_sum f e (suc n) bs) r
+one_sum_passed f e n (b ∷ bs) h = grind (arith, ints, nat_tests, one_sum_passed f e (suc n) bs (omega arith))
 
 one_sum_is : (f : Point → ℤ) (e : Entry) (n : ℕ) (bs : List Box) → n ≤ e.number → e.number < n + length bs → one_sum f e n bs ≡ pos e.weight *ℤ f (corner_at n bs e)
 one_sum_is f e n [] h k = absurd (omega arith)
-one_sum_is f e n (b ∷ bs) h k = go (test n e.number) (λ ne. one_sum_is f e (suc n) bs (omega arith) (omega arith))
-  where
-    go : {c : Bool} → Test n e.number c → ((n ≡ e.number → ⊥) → one_sum f e (suc n) bs ≡ pos e.weight *ℤ f (corner_at (suc n) bs e))
-        → cond c (pos e.weight *ℤ f (corner_of e.corner b)) (pos 0) +ℤ one_sum f e (suc n) bs ≡ pos e.weight *ℤ f (cond c (corner_of e.corner b) (corner_at (suc n) bs e))
-    go (equal g) r =
-        lin 0 2 (λ x s. s ≐ # 0 ⟹ x ⊕ s ≐ x) (omega arith) (pos e.weight *ℤ f (corner_of e.corner b)) (one_sum f e (suc n) bs)
-        (one_sum_passed f e (suc n) bs (omega arith))
-    go (unequal g) r = lin 0 2 (λ x s. s ≐ x ⟹ # 0 ⊕ s ≐ x) (omega arith) (pos e.weight *ℤ f (corner_at (suc n) bs e)) (one_sum f e (suc n) bs) (r g)
+one_sum_is f e n (b ∷ bs) h k = grind (arith, ints, nat_tests, one_sum_passed f e (suc n) bs, one_sum_is f e (suc n) bs)
 
 swapped : (f : Point → ℤ) (bs : List Box) {es : List Entry} → All (λ e. (1 ≤ e.number) × (e.number ≤ length bs)) es
     → boxes_sum f es 1 bs ≡ weighted f (map (λ e. e.weight) es) (map (corner_at 1 bs) es)
@@ -112,32 +99,22 @@ sum_at_less f k (e ∷ es) n b = go (eqb n e.number) (sum_at_less f k es n b)
 
 sum_at_one : (es : List Entry) (n : ℕ) (b : Box) → sum_at (λ c. pos 1) es n b ≡ pos (weight_at es n)
 sum_at_one [] n b = refl
-sum_at_one (e ∷ es) n b = go (eqb n e.number) (sum_at_one es n b)
-  where
-    go : (c : Bool) → sum_at (λ c. pos 1) es n b ≡ pos (weight_at es n) → cond c (pos e.weight *ℤ pos 1) (pos 0) +ℤ sum_at (λ c. pos 1) es n b ≡ pos (cond c e.weight 0 + weight_at es n)
-    go true r = lin 0 3 (λ w s v. s ≐ v ⟹ w ⊗ # 1 ⊕ s ≐ w ⊕ v) (omega arith) (pos e.weight) (sum_at (λ c. pos 1) es n b) (pos (weight_at es n)) r
-    go false r = lin 0 2 (λ s v. s ≐ v ⟹ # 0 ⊕ s ≐ # 0 ⊕ v) (omega arith) (sum_at (λ c. pos 1) es n b) (pos (weight_at es n)) r
+sum_at_one (e ∷ es) n b = grind (arith, ints, nat_tests, sum_at_one es n b)
 
 total_shares : (es : List Entry) (n : ℕ) (bs : List Box) → boxes_sum (λ c. pos 1) es n bs ≡ pos (total (shares es n bs))
 total_shares es n [] = refl
-total_shares es n (b ∷ bs) = ap₂ ◌+ℤ◌ (sum_at_one es n b) (total_shares es (suc n) bs)
+total_shares es n (b ∷ bs) = omega (arith, ints, sum_at_one es n b, total_shares es (suc n) bs)
 
 weighted_one : (ws : List ℕ) (vs : List Point) → length ws ≡ length vs → weighted (λ c. pos 1) ws vs ≡ pos (total ws)
 weighted_one [] vs h = refl
 weighted_one (w ∷ ws) [] h = absurd (omega arith)
-weighted_one (w ∷ ws) (v ∷ vs) h = lin 0 3 (λ w s t. s ≐ t ⟹ w ⊗ # 1 ⊕ s ≐ w ⊕ t) (omega arith) (pos w) _ (pos (total ws)) (weighted_one ws vs (omega arith))
+weighted_one (w ∷ ws) (v ∷ vs) h = omega (arith, ints, weighted_one ws vs (omega arith))
 
 -- ---- a pick that follows the entries is balanced by the boxes' weights
 
 weightless : (f : Point → ℤ) (es : List Entry) (n : ℕ) (b : Box) → weight_at es n ≡ 0 → sum_at f es n b ≡ pos 0
 weightless f [] n b h = refl
-weightless f (e ∷ es) n b h = go (eqb n e.number) h (λ k. weightless f es n b k)
-  where
-    go : (c : Bool) → cond c e.weight 0 + weight_at es n ≡ 0 → (weight_at es n ≡ 0 → sum_at f es n b ≡ pos 0)
-        → cond c (pos e.weight *ℤ f (corner_of e.corner b)) (pos 0) +ℤ sum_at f es n b ≡ pos 0
-    go true k r = cert 0 3 (λ w x s. w ≐ # 0 ⟹ s ≐ # 0 ⟹ w ⊗ x ⊕ s ≐ # 0 ∵ eqn 0 x ⊞ eqn 1 (# 1)) tt
-        (pos e.weight) (f (corner_of e.corner b)) (sum_at f es n b) (ap pos (omega arith)) (r (omega arith))
-    go false k r = lin 0 1 (λ s. s ≐ # 0 ⟹ # 0 ⊕ s ≐ # 0) (omega arith) (sum_at f es n b) (r (omega arith))
+weightless f (e ∷ es) n b h = grind (arith, ints, nat_tests, weightless f es n b)
 
 -- in one coordinate f, weight times point is d times the sum of the entries, at every box
 data Adds (f : Point → ℤ) (es : List Entry) (d : ℕ) : ℕ → List Box → List Point → Type 0 where
@@ -174,10 +151,6 @@ shares_length p Chosen.none = refl
 shares_length p (mean h e f r) = ap suc (shares_length p r)
 shares_length p (south_west h e f r) = ap suc (shares_length p r)
 
-same_length : {A : Type 0} (f : A → ℕ) (g : A → Point) (l : List A) → length (map f l) ≡ length (map g l)
-same_length f g [] = refl
-same_length f g (x ∷ l) = ap suc (same_length f g l)
-
 -- the weights of the reason are the boxes'
 sum_entries : (f : Point → ℤ) (p : Point) (bs : List Box) (es : List Entry) → ((q : Point) → f (from 1 p q) ≡ f q -ℤ pos 1 *ℤ f p)
     → weighted (λ c. f c -ℤ pos 1 *ℤ f p) (map (λ e. e.weight) es) (map (corner_at 1 bs) es) ≡ weighted f (map (λ e. e.weight) es) (map (λ e. from 1 p (corner_at 1 bs e)) es)
@@ -189,17 +162,14 @@ chosen_balanced {bs} p es d qs r c =
     record {
       weights = shares es 1 bs;
       one_each = shares_length p c;
-      some_weight = subst (λ n. 0 < n) (pos_eq totals) r.some_weight;
+      some_weight = omega (arith, ints, totals, r.some_weight);
       east_sum = sum (λ v. v.east) (λ d q. refl) (east_adds c) r.east_sum;
       north_sum = sum (λ v. v.north) (λ d q. refl) (north_adds c) r.north_sum;
     }
   where
-    pos_eq : {m n : ℕ} → pos m ≡ pos n → m ≡ n
-    pos_eq e = ap nat_abs e
-
     totals : pos (total (map (λ e. e.weight) es)) ≡ pos (total (shares es 1 bs))
     totals =
-        sym (weighted_one (map (λ e. e.weight) es) (map (corner_at 1 bs) es) (same_length (λ e. e.weight) (corner_at 1 bs) es))
+        sym (weighted_one (map (λ e. e.weight) es) (map (corner_at 1 bs) es) (length-map es (λ e. e.weight) ∙ sym (length-map es (corner_at 1 bs))))
         ∙ sym (swapped (λ c. pos 1) bs r.named) ∙ total_shares es 1 bs
 
     sum : (f : Point → ℤ) → ((d : ℕ) (q : Point) → f (from d p q) ≡ f q -ℤ pos d *ℤ f p) → Adds f es d 1 bs qs
@@ -214,7 +184,7 @@ chosen_balanced {bs} p es d qs r c =
 -- the sum of a box's entries lies between its weight times the least, and the greatest, of its corners
 sum_at_bounds : (f : Point → ℤ) (l h : ℤ) (b : Box) → ((c : Corner) → (l ≤ℤ f (corner_of c b)) × (f (corner_of c b) ≤ℤ h)) → (es : List Entry) (n : ℕ)
     → (pos (weight_at es n) *ℤ l ≤ᶻ sum_at f es n b) × (sum_at f es n b ≤ᶻ pos (weight_at es n) *ℤ h)
-sum_at_bounds f l h b g [] n = (lin 0 1 (λ l. # 0 ⊗ l ≼ # 0) (omega arith) l, lin 0 1 (λ l. # 0 ≼ # 0 ⊗ l) (omega arith) h)
+sum_at_bounds f l h b g [] n = (omega (arith, ints), omega (arith, ints))
 sum_at_bounds f l h b g (e ∷ es) n = go (eqb n e.number) (sum_at_bounds f l h b g es n)
   where
     x : ℤ
@@ -229,22 +199,13 @@ sum_at_bounds f l h b g (e ∷ es) n = go (eqb n e.number) (sum_at_bounds f l h 
       cert 0 5 (λ w v h x s. # 0 ≼ w ⟹ x ≼ h ⟹ s ≼ v ⊗ h ⟹ w ⊗ x ⊕ s ≼ (w ⊕ v) ⊗ h ∵ hyp 0 ⊠ hyp 1 ⊞ hyp 2) tt
           (pos e.weight) (pos (weight_at es n)) h x (sum_at f es n b) (pos_nn _) (g e.corner).1 r.1,
     )
-    go false r = (
-      lin 0 3 (λ v l s. v ⊗ l ≼ s ⟹ (# 0 ⊕ v) ⊗ l ≼ # 0 ⊕ s) (omega arith) (pos (weight_at es n)) l (sum_at f es n b) r.0,
-      lin 0 3 (λ v h s. s ≼ v ⊗ h ⟹ # 0 ⊕ s ≼ (# 0 ⊕ v) ⊗ h) (omega arith) (pos (weight_at es n)) h (sum_at f es n b) r.1,
-    )
+    go false r = (omega (arith, ints), omega (arith, ints))
 
 corner_east : (b : Box) → Ordered b → (c : Corner) → (b.west ≤ℤ (corner_of c b).east) × ((corner_of c b).east ≤ℤ b.east)
-corner_east b o SouthWest = (≤ℤ_refl _, o.across)
-corner_east b o SouthEast = (o.across, ≤ℤ_refl _)
-corner_east b o NorthEast = (o.across, ≤ℤ_refl _)
-corner_east b o NorthWest = (≤ℤ_refl _, o.across)
+corner_east b o c = let w = corner_within c b o in (omega (arith, ints), omega (arith, ints))
 
 corner_north : (b : Box) → Ordered b → (c : Corner) → (b.south ≤ℤ (corner_of c b).north) × ((corner_of c b).north ≤ℤ b.north)
-corner_north b o SouthWest = (≤ℤ_refl _, o.upward)
-corner_north b o SouthEast = (≤ℤ_refl _, o.upward)
-corner_north b o NorthEast = (o.upward, ≤ℤ_refl _)
-corner_north b o NorthWest = (o.upward, ≤ℤ_refl _)
+corner_north b o c = let w = corner_within c b o in (omega (arith, ints), omega (arith, ints))
 
 -- the same points over a denominator m times as large
 abbrev scale : ℕ → Point → Point
@@ -304,7 +265,7 @@ denominator_pos es n (b ∷ bs) = go (weight_at es n) (denominator_pos es (suc n
   where
     go : (w : ℕ) {d : ℕ} → 0 < d → 0 < at_least_one w * d
     go zero h = omega arith
-    go (suc w) {d} h = ltb→lt 0 _ (mul_pos {a = pos (suc w)} {b = pos d} (record { lt = lt→ltb 0 (suc w) (omega arith) }) (record { lt = lt→ltb 0 d h })).lt
+    go (suc w) {d} h = omega (arith, mul-lt-mul_of_pos_right {m = 0} {n = suc w} {k = d} (omega arith) h)
 
 -- the first box's point, for its weight w
 module _ (es : List Entry) (n : ℕ) (b : Box) (o : Ordered b) (d : ℕ) where
@@ -387,20 +348,10 @@ pub record NamedCorner (n : ℕ) (bs : List Box) (q : Point) : Type 0 where
   pub is : (w : ℕ) → corner_at n bs (record { number = box; corner = corner; weight = w }) ≡ q
 
 named_in : (c : Corner) (n : ℕ) (bs : List Box) {q : Point} → q ∈ corners_of c bs → NamedCorner n bs q
-named_in c n (b ∷ bs) {q} (here e) = record { box = n; corner = c; from_n = omega arith; below = omega arith; is = λ w. at (test n n) (corner_at (suc n) bs (record { number = n; corner = c; weight = w })) }
-  where
-    at : {t : Bool} → Test n n t → (r : Point) → cond t (corner_of c b) r ≡ q
-    at (equal g) r = sym e
-    at (unequal g) r = absurd (g refl)
-named_in c n (b ∷ bs) {q} (there m) = go (named_in c (suc n) bs m)
-  where
-    go : NamedCorner (suc n) bs q → NamedCorner n (b ∷ bs) q
-    go r = record { box = r.box; corner = r.corner; from_n = omega arith; below = omega arith; is = λ w. at w (test n r.box) }
-      where
-        at : (w : ℕ) {t : Bool} → Test n r.box t
-            → cond t (corner_of r.corner b) (corner_at (suc n) bs (record { number = r.box; corner = r.corner; weight = w })) ≡ q
-        at w (equal g) = absurd (omega arith)
-        at w (unequal g) = r.is w
+named_in c n (b ∷ bs) (here e) = record { box = n; corner = c; from_n = omega arith; below = omega arith; is = λ w. rw (eq-eqb n n refl) (sym e) }
+named_in c n (b ∷ bs) (there m) =
+    let r = named_in c (suc n) bs m in
+    record { box = r.box; corner = r.corner; from_n = omega (arith, r.from_n); below = omega (arith, r.below); is = λ w. rw (ne_eqb n r.box (λ g. omega (arith, r.from_n))) (r.is w) }
 named_in c n [] {q = q} x' = elim x' [ ]
 
 pub named_corner : (bs : List Box) {q : Point} → q ∈ all_corners bs → NamedCorner 1 bs q

@@ -1,8 +1,9 @@
 -- Box by box and plug by plug, as loops over a flat list walk it. Assumes nothing.
-use mathlib.Core.Path.{◌≡◌, refl, sym, ◌∙◌, ap, subst}
+use mathlib.Core.Path.{◌≡◌, refl, ap, subst}
 use mathlib.Core.List.{List, [], ◌∷◌}
 use Prim.Native.Nat.{ℕ, zero, suc, ◌+◌, ◌*◌, ◌/◌, ◌<◌, ◌≤◌}
 use native.Mathlib.Omega.{arith}
+use native.Mathlib.Numerals.{unary_clauses}
 use lib.IntN.{ℤ, pos}
 use lib.ListN.{length, get_or, drop, drop_of_length-le}
 use Rattle.plane.specs.Members.{All}
@@ -42,10 +43,6 @@ boxes_length (w ∷ s ∷ []) = omega arith
 boxes_length (w ∷ s ∷ e ∷ []) = omega arith
 boxes_length (w ∷ s ∷ e ∷ n ∷ xs) = omega (arith, boxes_length xs)
 
--- a number past the first four
-past_four : (w s e n : ℤ) (xs : List ℤ) (i j : ℕ) → i ≡ suc (suc (suc (suc j))) → get_or (w ∷ s ∷ e ∷ n ∷ xs) i (pos 0) ≡ get_or xs j (pos 0)
-past_four w s e n xs i j h = rw h
-
 -- the box at place i, from 0
 pub boxes_at : (z : Box) (xs : List ℤ) (i : ℕ) → i < length (boxes_of xs) → get_or (boxes_of xs) i z ≡ box_at xs (i * 4)
 boxes_at z [] i h = absurd (omega arith)
@@ -53,13 +50,7 @@ boxes_at z (w ∷ []) i h = absurd (omega arith)
 boxes_at z (w ∷ s ∷ []) i h = absurd (omega arith)
 boxes_at z (w ∷ s ∷ e ∷ []) i h = absurd (omega arith)
 boxes_at z (w ∷ s ∷ e ∷ n ∷ xs) zero h = refl
-boxes_at z (w ∷ s ∷ e ∷ n ∷ xs) (suc i) h =
-    boxes_at z xs i (omega arith)
-    ∙ sym (same_edges (past_four w s e n xs (suc i * 4) (i * 4) (omega arith)) (past_four w s e n xs (suc i * 4 + 1) (i * 4 + 1) (omega arith))
-    (past_four w s e n xs (suc i * 4 + 2) (i * 4 + 2) (omega arith)) (past_four w s e n xs (suc i * 4 + 3) (i * 4 + 3) (omega arith)))
-  where
-    same_edges : {a b c d a' b' c' d' : ℤ} → a ≡ a' → b ≡ b' → c ≡ c' → d ≡ d' → box a b c d ≡ box a' b' c' d'
-    same_edges p q r t = λ k. box (p k) (q k) (r k) (t k)
+boxes_at z (w ∷ s ∷ e ∷ n ∷ xs) (suc i) h = let e : suc i * 4 ≡ suc (suc (suc (suc (i * 4)))) = omega arith in rw e (simp unary_clauses (simp unary_clauses at (boxes_at z xs i (omega arith))))
 
 -- what holds of every box holds of the one at place i
 pub all_boxes_at : {P : Box → Type 0} (xs : List ℤ) → All P (boxes_of xs) → (i : ℕ) → i < length xs / 4 → P (box_at xs (i * 4))

@@ -4,3 +4,4 @@ pub mod Words
 pub mod Reasons
 pub mod Refusals
 pub mod Replies
+pub mod Names

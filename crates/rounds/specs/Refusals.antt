@@ -1,5 +1,5 @@
 -- The table of refusals (docs/SCOPE.md 6.2, 6.3): each cause with its number, and the order of the causes for each call. Definitions only.
-use Rattle.std.specs.Prelude.{Result, Ok, Err, ℕ, ◌+◌, ◌*◌, ◌/◌, ◌%◌, min, Bool, true, false, not, ◌||◌, List, [], ◌∷◌, ℤ, pos, neg_ℤ, eqb, ltb, length}
+use Rattle.std.specs.Prelude.{Result, Ok, Err, cond, ℕ, ◌+◌, ◌*◌, ◌/◌, ◌%◌, min, Bool, true, false, not, ◌||◌, List, [], ◌∷◌, ℤ, pos, neg_ℤ, eqb, ltb, length}
 use Rattle.std.specs.Int.Signed.{lt_z}
 use Rattle.plane.specs.Points.{span}
 use Rattle.plane.specs.declared.Point.{Point}
@@ -24,6 +24,21 @@ number_of Cause.CutShort = 9
 number_of Cause.BoxAfterPlug = 10
 number_of Cause.ByteAfterEnd = 11
 number_of Cause.InputTooLong = 12
+
+-- the cause of a number
+abbrev pub cause_meant : ℕ → Cause
+cause_meant n =
+    cond (eqb n 1) Cause.ListLength
+    (cond (eqb n 2) Cause.NoBox
+    (cond (eqb n 3) Cause.TooManyBoxes
+    (cond (eqb n 4) Cause.EdgeBeyond
+    (cond (eqb n 5) Cause.EdgesReversed
+    (cond (eqb n 6) Cause.PlugBeyond
+    (cond (eqb n 7) Cause.BufferShort
+    (cond (eqb n 8) Cause.UnknownMark
+    (cond (eqb n 9) Cause.CutShort
+    (cond (eqb n 10) Cause.BoxAfterPlug
+    (cond (eqb n 11) Cause.ByteAfterEnd Cause.InputTooLong))))))))))
 
 -- what a call is turned back by: nothing, or a cause and the place returned
 pub data Fault : Type 0 where

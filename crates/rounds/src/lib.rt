@@ -1,10 +1,11 @@
-// Boxes, corners, words, reasons, causes and refusals as types, with their numbers and their sizes (docs/SCOPE.md). What
-// they mean is in specs/, the theorems about them in proofs/.
+// Boxes, corners, words, reasons, causes and refusals as types, with their numbers and their sizes (docs/SCOPE.md).
+// What they mean is in specs/, the theorems about them in proofs/.
 #![tactic(auto)]
 
 ghost use Rattle.std.specs.Prelude.{◌≡◌};
 ghost use Rattle.rounds.specs.Boxes.{corner_of};
 ghost use Rattle.rounds.specs.Refusals.{number_of};
+ghost use Rattle.rounds.specs.Names.{name_of};
 
 use plane::Point;
 use std::fmt;
@@ -33,11 +34,18 @@ impl Box {
     pub fn corner(self, corner: Corner) -> Point
         ensures { result ≡ corner_of corner self }
     {
-        let (east, north) = match corner {
-            Corner::SouthWest => (self.west, self.south),
-            Corner::SouthEast => (self.east, self.south),
-            Corner::NorthEast => (self.east, self.north),
-            Corner::NorthWest => (self.west, self.north),
+        // Two matches: with one that gives a pair, a verdict takes a fifth more instructions.
+        let east = match corner {
+            Corner::SouthWest => self.west,
+            Corner::SouthEast => self.east,
+            Corner::NorthEast => self.east,
+            Corner::NorthWest => self.west,
+        };
+        let north = match corner {
+            Corner::SouthWest => self.south,
+            Corner::SouthEast => self.south,
+            Corner::NorthEast => self.north,
+            Corner::NorthWest => self.north,
         };
         Point { east, north }
     }
@@ -52,6 +60,16 @@ pub enum Corner {
     NorthWest,
 }
 
+impl Corner {
+    // The four corner names, in the order of their numbers.
+    pub const ALL: [Corner; 4] = [
+        Corner::SouthWest,
+        Corner::SouthEast,
+        Corner::NorthEast,
+        Corner::NorthWest,
+    ];
+}
+
 // A verdict's word, with its number.
 #[derive(Clone, Copy, Debug, PartialEq, Eq)]
 pub enum Word {
@@ -60,18 +78,27 @@ pub enum Word {
     Undecided = 3,
 }
 
-impl fmt::Display for Word {
-    fn fmt<W: fmt::Write>(&self, f: &mut fmt::Formatter<W>) -> fmt::Result {
-        f.write_str(match self {
+impl Word {
+    // The word's name.
+    pub fn name(self) -> &'static str
+        ensures { result.now ≡ name_of self }
+    {
+        match self {
             Word::Inside => "inside",
             Word::Outside => "outside",
             Word::Undecided => "undecided",
-        })
+        }
+    }
+}
+
+impl fmt::Display for Word {
+    fn fmt<W: fmt::Write>(&self, f: &mut fmt::Formatter<W>) -> fmt::Result {
+        f.write_str(self.name())
     }
 }
 
 // The first driver's reason: that corner of every box is the pick, and no picked point is ahead of the plug in the
-// direction.
+// direction. Its east and north stand one by one, as C reads them.
 #[derive(Clone, Copy, Debug, PartialEq, Eq)]
 pub struct Direction {
     pub corner: Corner,

@@ -2,18 +2,17 @@
 // direction, square to which the boxes are seen.
 #![tactic(auto)]
 
-ghost use Rattle.turns.specs.Keys.{Key, point_of};
+ghost use Rattle.turns.specs.Keys.{point_of};
 ghost use Rattle.rounds.specs.Boxes.{boxes_of};
-ghost use Rattle.cones.specs.Wider.{Keyed};
 ghost use Rattle.separating_lines.specs.Separating.{SeparatedIf};
 
 use boxes::Boxes;
 use cones::Cone;
+use turns::Key;
 
 // Whether the line through the plug in the direction from a to b has every corner of every box strictly right of it. Of
 // each box, the corner furthest left tells.
-fn is_left_of_all(boxes: Boxes, a: u32, b: u32, plug: u32) -> bool
-    requires { Key a × Key b × Key plug }
+fn is_left_of_all(boxes: Boxes, a: Key, b: Key, plug: Key) -> bool
     ensures { SeparatedIf (boxes_of boxes.entry.numbers.now) (point_of plug) result }
 {
     let line = lines::line_through(a, b);
@@ -29,8 +28,7 @@ fn is_left_of_all(boxes: Boxes, a: u32, b: u32, plug: u32) -> bool
 }
 
 // Whether the line through the plug in the direction of the chord of a wedge separates it from all boxes.
-pub fn is_separated(boxes: Boxes, cone: Cone, plug: u32) -> bool
-    requires { Keyed cone × Key plug }
+pub fn is_separated(boxes: Boxes, cone: Cone, plug: Key) -> bool
     ensures { SeparatedIf (boxes_of boxes.entry.numbers.now) (point_of plug) result }
 {
     let Cone::Wedge(a, b) = cone else {

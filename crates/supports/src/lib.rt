@@ -3,10 +3,9 @@
 #![tactic(auto)]
 
 ghost use Rattle.std.specs.Prelude.{◌≡◌};
-ghost use Rattle.turns.specs.Keys.{Key, point_of};
+ghost use Rattle.turns.specs.Keys.{IsKey, point_of};
 ghost use Rattle.rounds.specs.Boxes.{boxes_of, corners_of};
 ghost use Rattle.cones.specs.Cones.{Named, ConeSays};
-ghost use Rattle.cones.specs.Wider.{Keyed};
 ghost use Rattle.views.specs.Views.{CornerViewSays};
 ghost use Rattle.supports.specs.Supports.{square_to, SupportAt, TriangleSays, SupportSays, SupportBy};
 ghost use Rattle.supports.specs.Supporting.{support_of_cone, support_of_corner, support_of};
@@ -14,12 +13,13 @@ ghost use Rattle.supports.specs.Supporting.{support_of_cone, support_of_corner, 
 use boxes::Boxes;
 use cones::{Cone, CornerKey};
 use rounds::{Corner, Direction};
+use turns::Key;
 use views::View;
 
 // The direction square to the ray from the plug through a.
-fn square_to(a: CornerKey, corner: Corner, plug: u32) -> Direction
-    requires { Key a.key × Key plug }
-    ensures { result ≡ square_to (point_of a.key) corner (point_of plug) }
+fn square_to(a: CornerKey, corner: Corner, plug: Key) -> Direction
+    ensures value { result ≡ square_to (point_of a.key) corner (point_of plug) }
+    ensures keys { IsKey a.key × IsKey plug }
 {
     let east = turns::north_between(plug, a.key);
     let north = turns::east_between(a.key, plug);
@@ -32,12 +32,11 @@ fn square_to(a: CornerKey, corner: Corner, plug: u32) -> Direction
 
 // What the cone of that one corner of every box tells the first driver: no point is ahead of the direction square to
 // its first ray.
-fn support_by(cone: Cone, corner: Corner, plug: u32) -> Option<Direction>
-    requires { Key plug × Keyed cone }
-    ensures exact { result ≡ support_of_cone plug cone corner }
-    ensures supports { SupportBy (point_of plug) cone corner result }
+fn support_by(cone: &Cone, corner: Corner, plug: Key) -> Option<Direction>
+    ensures exact { result ≡ support_of_cone plug cone.now corner }
+    ensures supports { SupportBy (point_of plug) cone.now corner result }
 {
-    match cone {
+    match *cone {
         Cone::Nothing => Some(Direction {
             corner,
             east: 1,
@@ -57,10 +56,9 @@ fn is_in_triangle(
     a: CornerKey,
     b: CornerKey,
     c: CornerKey,
-    plug: u32,
+    plug: Key,
 ) -> bool
-    requires key { Key plug }
-    requires named { Named (boxes_of boxes.numbers.now) a × Named (boxes_of boxes.numbers.now) b
+    requires { Named (boxes_of boxes.numbers.now) a × Named (boxes_of boxes.numbers.now) b
         × Named (boxes_of boxes.numbers.now) c }
     ensures { TriangleSays (boxes_of boxes.entry.numbers.now) (point_of plug) corner result }
 {
@@ -72,29 +70,27 @@ fn is_in_triangle(
 
 // What that one corner of every box tells the first driver. Where the south-west corners of three boxes are round the
 // plug, the same boxes are tried first.
-fn support_at(boxes: Boxes, corner: Corner, plug: u32, southwest: Cone) -> Option<Direction>
-    requires key { Key plug }
-    requires cone_says { ConeSays (boxes_of boxes.numbers.now)
-        (corners_of Corner.SouthWest (boxes_of boxes.numbers.now)) (point_of plug) southwest }
+fn support_at(boxes: Boxes, corner: Corner, plug: Key, southwest: &Cone) -> Option<Direction>
+    requires { ConeSays (boxes_of boxes.numbers.now) (corners_of Corner.SouthWest (boxes_of boxes.numbers.now))
+        (point_of plug) southwest.now }
     ensures exact { result ≡ support_of_corner plug corner (boxes_of boxes.entry.numbers.now) }
     ensures supports { SupportAt (boxes_of boxes.entry.numbers.now) (point_of plug) corner result }
 {
-    if let Cone::Around(a, b, c) = southwest {
+    if let Cone::Around(a, b, c) = *southwest {
         if is_in_triangle(boxes, corner, a, b, c, plug) {
             return None;
         }
     }
-    support_by(views::view_of(boxes, corner, plug).cone, corner, plug)
+    support_by(&views::view_of(boxes, corner, plug).cone, corner, plug)
 }
 
 // What the four corners of the boxes tell the first driver, where the south-west corners' view is known.
-pub fn support_of(boxes: Boxes, plug: u32, view: View) -> Option<Direction>
-    requires key { Key plug }
-    requires corner_view_says { CornerViewSays (boxes_of boxes.numbers.now) Corner.SouthWest (point_of plug) view }
-    ensures exact { result ≡ support_of plug (boxes_of boxes.entry.numbers.now) view }
+pub fn support_of(boxes: Boxes, plug: Key, view: &View) -> Option<Direction>
+    requires { CornerViewSays (boxes_of boxes.numbers.now) Corner.SouthWest (point_of plug) view.now }
+    ensures exact { result ≡ support_of plug (boxes_of boxes.entry.numbers.now) view.now }
     ensures supports { SupportSays (boxes_of boxes.entry.numbers.now) (point_of plug) result }
 {
-    let southwest = view.cone;
+    let southwest = &view.cone;
     if let Some(direction) = support_by(southwest, Corner::SouthWest, plug) {
         return Some(direction);
     }

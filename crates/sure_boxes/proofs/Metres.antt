@@ -10,7 +10,7 @@ use mir.Val.{to_z, of_z}
 use Rattle.integers.specs.Upto.{Upto}
 use Rattle.integers.proofs.Machine.{Got, got', ask_add, ask_sub, upto_plain}
 use Rattle.plane.specs.Points.{span}
-use Rattle.turns.specs.Keys.{Key, point_of}
+use Rattle.turns.specs.Keys.{IsKey, point_of}
 use Rattle.turns.proofs.Coordinates.{upto_nat, key_in_span}
 
 -- one metre
@@ -30,8 +30,8 @@ pub short_of : {a b r : ℤ} → r ≡ int_min a b → Upto span a → Upto span
 short_of {a} {b} e h k = ask_sub (got' w32 tt (subst (Upto span) (sym e) (either k h (int_lt b a)))) one tt
 
 -- a coordinate of a key's point that a call returned as r
-pub east_in_span : {k : ℕ} {r : ℤ} → Key k → r ≡ (point_of k).east → Upto span (to_z w32 (of_z w32 r))
+pub east_in_span : {k : ℕ} {r : ℤ} → IsKey k → r ≡ (point_of k).east → Upto span (to_z w32 (of_z w32 r))
 east_in_span h e = upto_plain w32 tt (subst (Upto span) (sym e) (key_in_span h).easts)
 
-pub north_in_span : {k : ℕ} {r : ℤ} → Key k → r ≡ (point_of k).north → Upto span (to_z w32 (of_z w32 r))
+pub north_in_span : {k : ℕ} {r : ℤ} → IsKey k → r ≡ (point_of k).north → Upto span (to_z w32 (of_z w32 r))
 north_in_span h e = upto_plain w32 tt (subst (Upto span) (sym e) (key_in_span h).norths)

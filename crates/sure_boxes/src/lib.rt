@@ -5,50 +5,37 @@
 ghost use Rattle.std.specs.Prelude.{◌≡◌, true, Ok, IfSome};
 ghost use Rattle.plane.specs.Points.{InSpan};
 ghost use Rattle.rounds.specs.declared.Word.TheVariants.{Inside};
-ghost use Rattle.turns.specs.Keys.{Key};
-ghost use Rattle.locations.specs.Places.{KeyPolygon};
 ghost use Rattle.plug_words.specs.Plugs.{WordBy, Sure};
 
 use extremes::Far;
 use plane::Point;
 use rounds::{Box, Corner, Word};
-use words::{CORNERS, Polygons};
+use turns::Key;
+use words::Polygons;
 
 // For fewer plugs no box is sought: to find one takes as long as a few of them do, as measured.
 const FEW_PLUGS: usize = 32;
 
-// A key that lies as far as any in the direction of the key `toward`. Only that it is a key is promised: which it is
-// decides how large the box becomes.
-fn farthest_key(keys: &[u32], toward: u32) -> u32
-    requires { KeyPolygon keys.now toward }
-    ensures { Key result }
-{
-    let datum = turns::key_of(Point { east: 0, north: 0 });
-    let mut farthest = keys[0];
-    let mut reach = turns::dot_product(datum, toward, farthest);
-    for &key in keys {
-        let far = turns::dot_product(datum, toward, key);
-        if reach < far {
-            farthest = key;
-            reach = far;
-        }
-    }
-    farthest
+// A key that lies as far as any in the direction of the key `toward`; the datum's, if there is none. Which key it is
+// decides how large the box becomes, and is not promised.
+fn farthest_key(keys: &[Key], toward: Key) -> Key {
+    let datum = Key::new(Point { east: 0, north: 0 });
+    keys.iter()
+        .copied()
+        .max_by_key(|key| turns::dot_product(datum, toward, *key))
+        .unwrap_or(datum)
 }
 
 // The same of the vertices of a corner polygon, in the direction of a point.
-fn farthest_vertex(polygons: Polygons, corner: Corner, toward: Point) -> u32
+fn farthest_vertex(polygons: Polygons, corner: Corner, toward: Point) -> Key
     requires { InSpan toward }
-    ensures { Key result }
 {
-    farthest_key(polygons.of_corner(corner), turns::key_of(toward))
+    farthest_key(polygons.of_corner(corner), Key::new(toward))
 }
 
 // In each direction the farthest vertex of the corner polygon that reaches least far there.
 // Each direction is named once: a loop over corners would name both in a table.
-fn find_far(polygons: Polygons) -> Far
-    ensures { Key result.ne × Key result.nw × Key result.sw × Key result.se }
-{
+fn find_far(polygons: Polygons) -> Far {
     Far {
         ne: farthest_vertex(polygons, Corner::SouthWest, Point { east: 1, north: 1 }),
         nw: farthest_vertex(polygons, Corner::SouthEast, Point { east: -1, north: 1 }),
@@ -65,14 +52,12 @@ fn find_far(polygons: Polygons) -> Far
 }
 
 // The largest box that does not reach as far as the four keys.
-fn between(far: Far) -> Box
-    requires { Key far.ne × Key far.nw × Key far.sw × Key far.se }
-{
+fn between(far: Far) -> Box {
     Box {
-        west: turns::east_of(far.nw).max(turns::east_of(far.sw)) + 1,
-        south: turns::north_of(far.sw).max(turns::north_of(far.se)) + 1,
-        east: turns::east_of(far.ne).min(turns::east_of(far.se)) - 1,
-        north: turns::north_of(far.ne).min(turns::north_of(far.nw)) - 1,
+        west: far.nw.east().max(far.sw.east()) + 1,
+        south: far.sw.north().max(far.se.north()) + 1,
+        east: far.ne.east().min(far.se.east()) - 1,
+        north: far.ne.north().min(far.nw.north()) - 1,
     }
 }
 
@@ -88,12 +73,10 @@ fn find_sure_box(polygons: Polygons) -> Option<Box>
     ensures { IfSome result (λ b. Sure polygons.entry.vertices.now polygons.entry.counts b) }
 {
     let b = between(find_far(polygons));
-    for corner in CORNERS {
-        if !is_inside(polygons, b.corner(corner)) {
-            return None;
-        }
-    }
-    Some(b)
+    let inside = Corner::ALL
+        .iter()
+        .all(|corner| is_inside(polygons, b.corner(*corner)));
+    if inside { Some(b) } else { None }
 }
 
 // A box in which every plug is inside, for so many plugs of a round.

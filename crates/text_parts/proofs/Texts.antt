@@ -1,6 +1,6 @@
 -- The text of a file, by what turns it back. Assumes nothing.
 use mathlib.Core.Path.{◌≡◌, refl, sym, ◌∙◌, ap, ap₂, subst}
-use mathlib.Core.List.{List, ◌++◌, flat_map, append-nil}
+use mathlib.Core.List.{List, ◌++◌, flat_map}
 use Prim.Native.Nat.{ℕ, ◌*◌, ◌/◌, ◌%◌, ◌≤◌, ◌<◌}
 use native.Mathlib.Omega.{arith}
 use borrow.Author.Tests.{lt-ltb, le-ltb, ne_eqb}
@@ -28,7 +28,7 @@ use Rattle.file_passes.proofs.Judging.{WellFormed}
 use Rattle.texts.specs.Text.{refused_line, count_line, plug_lines, whole_fault, text_of, Wrote}
 use Rattle.texts.proofs.Decimals.{few_digits}
 use Rattle.plug_lines.specs.Steps.{most_plugs}
-use Rattle.std.specs.Prelude.{Option, None, Result}
+use Rattle.std.specs.Prelude.{Option, Result}
 use Rattle.std.specs.Result.{IsErrAnd}
 use Rattle.rounds.proofs.Exits.{passed_on}
 use Rattle.text_parts.specs.Waiting.{most_file_plugs, Waiting}
@@ -77,17 +77,6 @@ too_many l e h = let n : length l ≡ 0 → ⊥ = omega arith in simp (e, ne_eqb
 pub refused_by : (file entry : List ℕ) (r : Result Opening Refusal) (e : Refusal) → IsErrAnd r (λ x. x ≡ e) → refused_line (number_of e.cause) e.place ≡ text_of file
     → OpenedOrRefused file entry r entry
 refused_by file entry r e h t = subst (λ x. OpenedOrRefused file entry x entry) (sym (passed_on r h)) (t, refl)
-
-pub refused_whole : {file entry same exit : List ℕ} (refusal : Refusal) {n : ℕ} → (refused_line (number_of refusal.cause) refusal.place ≡ text_of file) × (same ≡ entry)
-    → Wrote (refused_line (number_of refusal.cause) refusal.place) same n exit → Opened file entry (record { bytes = n; left = None }) exit
-refused_whole {exit = exit} refusal {n = n} t w =
-    record {
-      opening = refused_line (number_of refusal.cause) refusal.place;
-      wrote = subst (λ x. Wrote (refused_line (number_of refusal.cause) refusal.place) x n exit) t.1 w;
-      is = append-nil (refused_line (number_of refusal.cause) refusal.place) ∙ t.0;
-      few = λ z. absurd (omega (arith, z));
-      behind = tt;
-    }
 
 -- ---- a well_formed file
 

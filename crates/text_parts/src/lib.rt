@@ -2,7 +2,7 @@
 // or that of the counts, and behind that of the counts the lines of the plugs. These are read from the file and written
 // piece by piece, so that nobody holds all plugs at once.
 //
-// Each step writes at the front of what it is lent, returns how much it wrote, and leaves the remainder as it was.
+// No heap: each step writes at the front of what it is lent, returns how much it wrote, and leaves the rest as it was.
 #![tactic(auto)]
 
 ghost use Rattle.std.specs.Prelude.{◌≤◌, ◌≡◌, length};
@@ -15,6 +15,7 @@ mod lines_left;
 
 pub use lines_left::{LinesLeft, Piece};
 use rounds::{Cause, MOST_BOXES, MOST_INPUT, MOST_NUMBERS, Refusal};
+use turns::Key;
 
 // The length of a buffer in which every opening has room, and the lines of every piece.
 pub const PIECE_LENGTH: usize = 4096;
@@ -48,7 +49,7 @@ fn write_counts(boxes: usize, plugs: usize, out: &mut [u8]) -> usize
 // they are read.
 fn open_round<'a>(
     file: &'a [u8],
-    vertices: &'a mut [u32],
+    vertices: &'a mut [Key],
     out: &mut [u8],
 ) -> Result<Opening<'a>, Refusal>
     requires { OpeningRoom vertices.old out.old }
@@ -78,7 +79,7 @@ fn open_round<'a>(
 }
 
 // The opening of the text of an input. The polygons of its round are made once, and stand in vertices.
-pub fn open_text<'a>(file: &'a [u8], vertices: &'a mut [u32], out: &mut [u8]) -> Opening<'a>
+pub fn open_text<'a>(file: &'a [u8], vertices: &'a mut [Key], out: &mut [u8]) -> Opening<'a>
     requires { OpeningRoom vertices.old out.old }
     ensures { Opened file.now out.old result out.new }
 {

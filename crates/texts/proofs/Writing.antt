@@ -6,7 +6,7 @@ use native.Mathlib.Omega.{arith}
 use native.Mathlib.Numerals.{add-one}
 use lib.ListN.{length, get_or, take, drop, set, length-append, length-drop}
 use lib.Seq.{drop-cons, set_at, append_snoc}
-use Rattle.integers.proofs.Parts.{tail_is, tail_call, then_write}
+use Rattle.integers.proofs.Parts.{tail_call, then_write}
 use Rattle.texts.specs.Decimals.{digit, decimal}
 use Rattle.texts.specs.Text.{Wrote}
 use Rattle.texts.proofs.Decimals.{decimal_small, decimal_large, length_small, length_large}
@@ -63,20 +63,6 @@ then_two n {xs} {ys} {k} h f l =
 pub wrote_length : {a xs ys : List ℕ} {n : ℕ} → Wrote a xs n ys → length a ≤ length xs → length ys ≡ length xs
 wrote_length {a} {xs} f h = ap length f.bytes ∙ length-append a (drop (length a) xs) ∙ omega (arith, length-drop (length a) xs)
 
--- room for k bytes more is there still, in the whole and in the part that is lent on
-pub room_after : {a xs ys : List ℕ} {n : ℕ} (k : ℕ) → Wrote a xs n ys → length a + k ≤ length xs → n + k ≤ length ys
-room_after k f h = omega (arith, f.counted, wrote_length f (omega arith))
-
-pub room_behind : {a xs ys : List ℕ} {n : ℕ} (k : ℕ) → Wrote a xs n ys → length a + k ≤ length xs → k ≤ length (take (length ys - n) (drop n ys))
-room_behind {ys = ys} {n = n} k f h = omega (arith, ap length (tail_is n ys), length-drop n ys, room_after k f h)
-
 -- the text by another name
 pub wrote_as : {a b xs ys : List ℕ} {n : ℕ} → a ≡ b → Wrote a xs n ys → Wrote b xs n ys
 wrote_as {xs = xs} {ys = ys} {n = n} e f = subst (λ t. Wrote t xs n ys) e f
-
--- what was written fits
-pub wrote_fits : {a xs ys : List ℕ} {n : ℕ} → Wrote a xs n ys → n ≤ length ys
-wrote_fits {a} {xs} f = omega (arith, f.counted, ap length f.bytes, length-append a (drop (length a) xs))
-
-pub both_fit : {a b xs ys zs : List ℕ} {n m : ℕ} → Wrote a xs n ys → Wrote b (take (length ys - n) (drop n ys)) m zs → length zs ≡ length (take (length ys - n) (drop n ys)) → n + m ≤ length ys
-both_fit {ys = ys} {n = n} f g l = omega (arith, wrote_fits f, wrote_fits g, l, ap length (tail_is n ys), length-drop n ys)

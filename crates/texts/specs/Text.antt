@@ -7,9 +7,9 @@ use Rattle.plane.specs.declared.Point.{Point}
 use Rattle.rounds.specs.declared.Box.{Box}
 use Rattle.rounds.specs.Refusals.{Fault, none, fault, number_of, ◌or_else◌, input_fault, box_list_fault, plug_fault}
 use Rattle.rounds.specs.Replies.{Reply, result, refused, reply_under, buffer_under}
+use Rattle.rounds.specs.Names.{name_of}
 use Rattle.rounds.specs.Words.{word_of}
 use Rattle.rounds.specs.declared.Word.{Word}
-use Rattle.rounds.specs.declared.Word.TheVariants.{Inside, Outside, Undecided}
 use Rattle.formats.specs.Content.{content_of}
 use Rattle.formats.specs.Promises.{edges}
 use Rattle.texts.specs.Decimals.{decimal}
@@ -29,9 +29,7 @@ count_line boxes plugs = ascii "boxes " ++ decimal boxes ++ ascii " plugs " ++ d
 
 -- the three words
 abbrev pub word_text : Word → List ℕ
-word_text Inside = ascii "inside"
-word_text Outside = ascii "outside"
-word_text Undecided = ascii "undecided"
+word_text word = name_of word
 
 -- what stands after a plug's number: a word, or `refused 6` for a plug beyond ±16,000
 abbrev pub reply_text : Reply Word → List ℕ

@@ -1,6 +1,6 @@
 // Text at the front of a lent buffer: bytes, numbers in base ten, and fields of a label and a number.
 //
-// Each step writes at the front of what it is lent, returns how much it wrote, and leaves the remainder as it was.
+// No heap: each step writes at the front of what it is lent, returns how much it wrote, and leaves the rest as it was.
 // Digits are written here, as std writes them to a formatter or to a buffer of its own, from which one copies.
 #![tactic(auto)]
 

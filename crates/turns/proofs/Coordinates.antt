@@ -1,23 +1,22 @@
 -- A coordinate of the span, moved by 16,000 to be a part of a key, and back. Assumes nothing.
 use mathlib.Core.Path.{◌≡◌, sym, ap, ◌∙◌, subst}
-use Prim.Native.Nat.{ℕ, suc, ◌+◌, ◌-◌, ◌*◌, ◌≤◌}
+use Prim.Native.Nat.{ℕ, suc, ◌+◌, ◌-◌, ◌*◌, ◌≤◌, ◌^◌}
 use native.Mathlib.Omega.{arith}
-use lib.Dec.{T, lit≤}
+use lib.Dec.{T, ltb, lit≤}
 use lib.IntN.{ℤ, pos, negsuc, ◌+ℤ◌, ◌-ℤ◌, ◌*ℤ◌, nat_abs}
 use lib.Signed.{non_neg}
 use mir.Syntax.{w32, w64}
-use mir.Val.{SFits, to_z, of_z}
-use mir.ValLaws.{to_z-of_z}
+use mir.Val.{SFits, hbits, to_z, of_z}
 use Rattle.integers.specs.Upto.{Upto}
 use Rattle.integers.proofs.Expr.{◌⊕◌, ◌⊖◌, ◌⊗◌, ⊝◌, #◌, ◌≐◌, ◌≼◌, ◌⟹◌}
 use Rattle.integers.proofs.Lin.{lin}
 use Rattle.integers.proofs.Ring.{ring}
 use Rattle.integers.proofs.Diff.{is_self, is_neg, is_add, is_eq, is_le, le_is}
-use Rattle.integers.proofs.Machine.{fits, plain, upto_plain, upto_sub, Got, got, got', ask_sub, got_sub, ask_add, got_add}
+use Rattle.integers.proofs.Machine.{fits, plain, upto_sub, Got, got, got', ask_sub, got_sub, ask_add, got_add}
 use Rattle.plane.specs.Points.{InSpan, point, signed_area}
 use Rattle.plane.specs.declared.Point.{Point}
 use Rattle.plane.proofs.Twins.{signed_areaᴱ}
-use Rattle.turns.specs.Keys.{stride, east_part, north_part, Key, KeyOf, key_at, point_of}
+use Rattle.turns.specs.Keys.{stride, east_part, north_part, IsKey, KeyOf, key_at, point_of}
 use Rattle.turns.proofs.Parts.{east_made, north_made}
 use Rattle.turns.proofs.Order.{point_injective}
 
@@ -52,25 +51,23 @@ part_upto n h =
     }
 
 -- a key's point is in the span
-pub key_in_span : {k : ℕ} → Key k → InSpan (point_of k)
+pub key_in_span : {k : ℕ} → IsKey k → InSpan (point_of k)
 unfolding point_of
 key_in_span {k} h = record { easts = part_upto (east_part k) h.east_in; norths = part_upto (north_part k) h.north_in }
 
 -- how far one key's point lies from another's
-module _ {a b : ℕ} (ha : Key a) (hb : Key b) where
+module _ {a b : ℕ} (ha : IsKey a) (hb : IsKey b) where
   pub easts_upto : Upto 32000 ((point_of b).east -ℤ (point_of a).east)
   easts_upto = upto_sub (key_in_span hb).easts (key_in_span ha).easts
 
   pub norths_upto : Upto 32000 ((point_of b).north -ℤ (point_of a).north)
   norths_upto = upto_sub (key_in_span hb).norths (key_in_span ha).norths
 
--- a coordinate or a difference of two, z, that a call returned as r, widened to 64 bits: what the cast asks, and what it leaves
-module _ {r z : ℤ} (e : r ≡ z) (h : Upto 32000 z) where
-  pub wide_fits : SFits w64 (to_z w32 (of_z w32 r))
-  wide_fits = fits w64 tt (upto_plain w32 tt (subst (Upto 32000) (sym e) h))
-
-  pub wide_is : to_z w64 (of_z w64 (to_z w32 (of_z w32 r))) ≡ z
-  wide_is = to_z-of_z w64 (to_z w32 (of_z w32 r)) wide_fits ∙ plain w32 tt (subst (Upto 32000) (sym e) h) ∙ e
+-- a coordinate or a difference of two, z, that a call returned as s, widened to 64 bits as r
+pub wide : {B : ℕ} {r s z : ℤ} → T (ltb B (2 ^ hbits w32)) → T (ltb B (2 ^ hbits w64)) → r ≡ to_z w32 (of_z w32 s) → s ≡ z → Upto B z
+    → Got w64 B (to_z w64 (of_z w64 r)) z
+wide {B} {z = z} t u e d h =
+    subst (λ x. Got w64 B (to_z w64 (of_z w64 x)) z) (sym (e ∙ ap (λ x. to_z w32 (of_z w32 x)) d ∙ plain w32 t h)) (got' w64 u h)
 
 -- a part of a key, widened to 64 bits
 pub part_wide : {r n : ℕ} → r ≡ n → n ≤ 32000 → Got w64 32000 (to_z w64 r) (pos n)

@@ -8,7 +8,7 @@ use lib.Signed.{◌<ℤ◌}
 use Rattle.integers.proofs.Expr.{◌⊖◌, #◌, ◌≺◌, ◌⟹◌}
 use Rattle.integers.proofs.Lin.{lin}
 use Rattle.plane.specs.Points.{span}
-use Rattle.turns.specs.Keys.{stride, east_part, north_part, Key, point_of, greatest_key, key_bound}
+use Rattle.turns.specs.Keys.{stride, east_part, north_part, IsKey, point_of, greatest_key}
 
 -- ---- a number and its parts
 
@@ -57,12 +57,11 @@ module _ (a b : ℕ) where
 
 -- ---- how great a key is
 
-pub key_most : {k : ℕ} → Key k → k ≤ greatest_key
+pub key_most : {k : ℕ} → IsKey k → k ≤ greatest_key
 unfolding east_part north_part
 key_most {k} h = omega (arith, h.east_in, h.north_in)
 
-pub key_below : {k : ℕ} → Key k → k < key_bound
-key_below {k} h = omega (arith, key_most h)
-
-pub bound_twice : key_bound + key_bound ≤ 2 ^ 32
-bound_twice = omega arith
+-- the least number is a key
+pub least_key : IsKey 0
+unfolding east_part north_part
+least_key = record { east_in = omega arith; north_in = omega arith }

@@ -9,25 +9,25 @@ use Rattle.integers.proofs.Lin.{lin}
 use Rattle.plane.specs.Points.{signed_area, span}
 use Rattle.plane.proofs.Twins.{pt, signed_areaᴱ}
 use Rattle.plane.proofs.Sides.{point_ext}
-use Rattle.turns.specs.Keys.{greatest_part, east_part, north_part, Key, point_of}
+use Rattle.turns.specs.Keys.{greatest_part, east_part, north_part, IsKey, point_of}
 use Rattle.turns.specs.Reflection.{opposite, reflected}
 use Rattle.turns.proofs.Parts.{key_most}
 
 -- ---- its parts
 
-reflected_east : {k : ℕ} → Key k → east_part (reflected k) ≡ greatest_part - east_part k
+reflected_east : {k : ℕ} → IsKey k → east_part (reflected k) ≡ greatest_part - east_part k
 unfolding east_part north_part reflected
 reflected_east {k} h = omega (arith, h.east_in, h.north_in)
 
-reflected_north : {k : ℕ} → Key k → north_part (reflected k) ≡ greatest_part - north_part k
+reflected_north : {k : ℕ} → IsKey k → north_part (reflected k) ≡ greatest_part - north_part k
 unfolding east_part north_part reflected
 reflected_north {k} h = omega (arith, h.east_in, h.north_in)
 
-pub reflected_key : {k : ℕ} → Key k → Key (reflected k)
+pub reflected_key : {k : ℕ} → IsKey k → IsKey (reflected k)
 reflected_key {k} h = record { east_in = omega (arith, reflected_east h); north_in = omega (arith, reflected_north h) }
 
 -- its point has both coordinates negated
-pub reflected_point : {k : ℕ} → Key k → point_of (reflected k) ≡ opposite (point_of k)
+pub reflected_point : {k : ℕ} → IsKey k → point_of (reflected k) ≡ opposite (point_of k)
 unfolding point_of
 reflected_point {k} h = point_ext (turned _ _ (reflected_east h) h.east_in) (turned _ _ (reflected_north h) h.north_in)
   where
@@ -38,11 +38,11 @@ reflected_point {k} h = point_ext (turned _ _ (reflected_east h) h.east_in) (tur
 
 -- ---- twice, in order, and three of them
 
-pub reflected_twice : {k : ℕ} → Key k → reflected (reflected k) ≡ k
+pub reflected_twice : {k : ℕ} → IsKey k → reflected (reflected k) ≡ k
 unfolding reflected
 reflected_twice {k} h = omega (arith, key_most h)
 
-pub reflected_less : {a b : ℕ} → Key b → a < b → reflected b < reflected a
+pub reflected_less : {a b : ℕ} → IsKey b → a < b → reflected b < reflected a
 unfolding reflected
 reflected_less {a} {b} h l = omega (arith, key_most h)
 
@@ -50,7 +50,7 @@ pub reflected_le : {a b : ℕ} → a ≤ b → reflected b ≤ reflected a
 unfolding reflected
 reflected_le {a} {b} l = omega arith
 
-pub reflected_area : {a b c : ℕ} → Key a → Key b → Key c
+pub reflected_area : {a b c : ℕ} → IsKey a → IsKey b → IsKey c
     → signed_area (point_of (reflected a)) (point_of (reflected b)) (point_of (reflected c)) ≡ signed_area (point_of a) (point_of b) (point_of c)
 reflected_area {a} {b} {c} ha hb hc =
     rw (reflected_point ha, reflected_point hb, reflected_point hc)

@@ -2,19 +2,19 @@
 use mathlib.Core.Path.{◌≡◌}
 use Prim.Native.Nat.{ℕ, ◌+◌, ◌-◌, ◌*◌, ◌/◌, ◌%◌, ◌≤◌}
 use native.Mathlib.Omega.{arith}
-use Rattle.turns.specs.Keys.{stride, east_part, north_part, Key}
+use Rattle.turns.specs.Keys.{stride, east_part, north_part, IsKey}
 use Rattle.turns.specs.Sums.{sum_of, difference_of}
 use Rattle.turns.proofs.Parts.{east_made, north_made, made_of}
 
 -- what stands below and above a stride
-pub sum_parts : {s k : ℕ} → Key k → s ≡ sum_of k → (s % stride ≡ east_part k) × (s / stride ≡ north_part k + east_part k)
+pub sum_parts : {s k : ℕ} → IsKey k → s ≡ sum_of k → (s % stride ≡ east_part k) × (s / stride ≡ north_part k + east_part k)
 unfolding east_part north_part sum_of
 sum_parts {s} {k} h e =
     let n = north_part k + east_part k in
     let o = h.east_in in
     rw e (north_made n (east_part k) (omega arith), east_made n (east_part k) (omega arith))
 
-pub difference_parts : {s k : ℕ} → Key k → s ≡ difference_of k → (s % stride ≡ east_part k) × (s / stride ≡ north_part k + (stride - east_part k))
+pub difference_parts : {s k : ℕ} → IsKey k → s ≡ difference_of k → (s % stride ≡ east_part k) × (s / stride ≡ north_part k + (stride - east_part k))
 unfolding east_part north_part difference_of
 difference_parts {s} {k} h e =
     let n = north_part k + (stride - east_part k) in
@@ -28,12 +28,12 @@ less_east x y e n p q = omega arith
 more_east : (x y e n : ℕ) → e ≤ stride → x ≡ e → y ≡ n + (stride - e) → y + x - stride ≡ n
 more_east x y e n l p q = omega arith
 
-pub sum_key : {s k : ℕ} → Key k → s ≡ sum_of k → s % stride * stride + (s / stride - s % stride) ≡ k
+pub sum_key : {s k : ℕ} → IsKey k → s ≡ sum_of k → s % stride * stride + (s / stride - s % stride) ≡ k
 sum_key {s} {k} h e =
     let p = sum_parts h e in
     made_of k (s % stride) (s / stride - s % stride) p.0 (less_east (s % stride) (s / stride) (east_part k) (north_part k) p.0 p.1)
 
-pub difference_key : {s k : ℕ} → Key k → s ≡ difference_of k → s % stride * stride + (s / stride + s % stride - stride) ≡ k
+pub difference_key : {s k : ℕ} → IsKey k → s ≡ difference_of k → s % stride * stride + (s / stride + s % stride - stride) ≡ k
 difference_key {s} {k} h e =
     let p = difference_parts h e in
     let o = h.east_in in

@@ -21,13 +21,13 @@ unfoldable pub north_part : ℕ → ℕ
 north_part k = k % stride
 
 -- the two parts of a key are each one of the 32,001 numbers of the span
-pub record Key (k : ℕ) : Type 0 where
+pub record IsKey (k : ℕ) : Type 0 where
   pub east_in : east_part k ≤ greatest_part
   pub north_in : north_part k ≤ greatest_part
 
 -- the first m numbers are keys of points of the span
 pub record AllKeys (q : ℕ → ℕ) (m : ℕ) : Type 0 where
-  pub key : (i : ℕ) → i < m → Key (q i)
+  pub key : (i : ℕ) → i < m → IsKey (q i)
 
 -- the point of a key
 unfoldable pub point_of : ℕ → Point
@@ -39,7 +39,7 @@ key_at q = nat_abs (q.east +ℤ pos span) * stride + nat_abs (q.north +ℤ pos s
 
 -- k is the key of the point
 pub record KeyOf (q : Point) (k : ℕ) : Type 0 where
-  pub key : Key k
+  pub key : IsKey k
   pub is : point_of k ≡ q
 
 -- lexicographic order: p lies west of q, or as far west and south of it
@@ -49,7 +49,3 @@ precedes p q = cond (lt_z p.east q.east) true (cond (lt_z q.east p.east) false (
 -- the greatest key, that of the north-east end of the span
 abbrev pub greatest_key : ℕ
 greatest_key = greatest_part * stride + greatest_part
-
--- a number above every key
-abbrev pub key_bound : ℕ
-key_bound = stride * stride

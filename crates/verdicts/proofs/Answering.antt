@@ -8,7 +8,7 @@ use lib.IntN.{ℤ}
 use Rattle.plane.specs.declared.Point.{Point}
 use Rattle.plane.specs.Members.{All}
 use Rattle.plane.specs.Vectors.{from, Separated}
-use Rattle.turns.specs.Keys.{Key, key_at, point_of}
+use Rattle.turns.specs.Keys.{IsKey, key_at, point_of}
 use Rattle.turns.proofs.Coordinates.{key_at_lem}
 use Rattle.rounds.specs.Boxes.{Ordered, BoxInSpan, boxes_of, all_corners}
 use Rattle.rounds.specs.declared.Box.{Box}
@@ -25,7 +25,8 @@ use Rattle.rounds.specs.declared.Refusal.{Refusal}
 use Rattle.rounds.proofs.Words.{undecided_by}
 use Rattle.rounds.proofs.Accepted.{or_else_none, accepted, plug_accepted}
 use Rattle.rounds.proofs.Corners.{inside_by_corners, outside_by_corners}
-use Rattle.rounds.proofs.Total.{one_word, exactly}
+use Rattle.rounds.proofs.Entries.{mean_pick, second_succeeds}
+use Rattle.rounds.proofs.Total.{exactly}
 use Rattle.views.specs.Looking.{view_of}
 use Rattle.views.proofs.Viewing.{view_says}
 use Rattle.supports.specs.Supports.{SupportSays}
@@ -85,27 +86,20 @@ by_drivers bs p None s h g = outside_by_corners p h
 by_drivers bs p (Some e) None h g = inside_by_corners p g
 by_drivers bs p (Some e) (Some d) h g = record { first_driver = g; second_driver = h }
 
-judged_from : (k : ℕ) → Key k → (bs : List Box) → All BoxInSpan bs → Judged bs (point_of k) (verdict_from k bs (view_of k SouthWest bs))
+judged_from : (k : ℕ) → IsKey k → (bs : List Box) → All BoxInSpan bs → Judged bs (point_of k) (verdict_from k bs (view_of k SouthWest bs))
 judged_from k hk bs h =
     let view = view_of k SouthWest bs in
     let o = view_says k bs h SouthWest in
-    by_drivers bs (point_of k) (balance_of k bs view) (support_of k bs view) (balance_says k hk bs h view o) (support_says k hk bs h view o)
-
-pub judged_found : (k : ℕ) → Key k → (bs : List Box) → All BoxInSpan bs → {v : Verdict} → v ≡ verdict_from k bs (view_of k SouthWest bs) → Judged bs (point_of k) v
-judged_found k hk bs h e = subst (λ v. Judged bs (point_of k) v) (sym e) (judged_from k hk bs h)
+    by_drivers bs (point_of k) (balance_of k bs view) (support_of k bs view) (balance_says k bs h view o) (support_says k hk bs h view o)
 
 -- a plug that is outside is found to be
-pub outside_from : (k : ℕ) → Key k → (bs : List Box) → All BoxInSpan bs → All Ordered bs → Separated (map (from 1 (point_of k)) (all_corners bs))
+pub outside_from : (k : ℕ) (bs : List Box) → All BoxInSpan bs → All Ordered bs → Separated (map (from 1 (point_of k)) (all_corners bs))
     → Verdict'.Outside ≡ verdict_from k bs (view_of k SouthWest bs)
-outside_from k hk bs h os s = go (verdict_from k bs (view_of k SouthWest bs)) (judged_from k hk bs h)
+outside_from k bs h os s = go (balance_of k bs (view_of k SouthWest bs)) (balance_says k bs h (view_of k SouthWest bs) (view_says k bs h SouthWest))
   where
-    is_outside : (w : Word) → Means bs (point_of k) w → w ≡ Outside
-    is_outside w m = one_word (point_of k) os w Outside m (outside_by_corners (point_of k) s)
-
-    go : (v : Verdict) → Judged bs (point_of k) v → Verdict'.Outside ≡ v
-    go Verdict'.Inside m = absurd (let e = is_outside Inside m in let z : ◌≡◌ {A = ℕ} 0 1 = cc in omega arith)
-    go Verdict'.Outside m = refl
-    go (Verdict'.Undecided r) m = absurd (let e = is_outside Undecided (reasoned_means bs (point_of k) r os m) in let z : ◌≡◌ {A = ℕ} 0 1 = cc in omega arith)
+    go : (b : Option Entries) → BalanceSays bs (point_of k) b → Verdict'.Outside ≡ verdict_by b (support_of k bs (view_of k SouthWest bs))
+    go None m = refl
+    go (Some e) m = absurd (outside_by_corners (point_of k) s (mean_pick os (e.first ∷ e.second ∷ e.third ∷ [])) (second_succeeds (point_of k) os _ m.reason))
 
 -- of boxes and a plug that no cause turns back
 abbrev found : List ℤ → Point → Verdict

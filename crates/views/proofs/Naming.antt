@@ -42,8 +42,8 @@ pub corner_of_lem : (bs : List Box) (c : Corner) (k key number : ℕ) → k < le
     → CornerOf bs c k (record { key = key; number = number; corner = c })
 corner_of_lem bs c k key number h e o =
     record {
-      key = o.key;
       named = record {
+        key = o.key;
         least = omega arith;
         most = omega arith;
         is = λ w.

@@ -21,12 +21,12 @@ use Rattle.rounds.specs.declared.Box.{Box}
 use Rattle.rounds.specs.declared.Corner.{Corner}
 use Rattle.corners.proofs.Places.{corner_in_span}
 use Rattle.cones.specs.Cones.{corner_point, Named, CornerOf, ConeSays, Widened}
-use Rattle.cones.specs.Wider.{numbered, Keyed, is_around}
+use Rattle.cones.specs.Wider.{numbered, is_around}
 use Rattle.cones.specs.declared.CornerKey.{CornerKey}
 use Rattle.cones.specs.declared.Cone.{Cone}
 use Rattle.cones.specs.declared.Cone.TheVariants.{Nothing, Ray, Line, Wedge, Half, Around}
 use Rattle.cones.proofs.Widening.{around_more}
-use Rattle.cones.proofs.Wider.{with_says, says_keyed}
+use Rattle.cones.proofs.Wider.{with_says}
 use Rattle.passes.specs.Passes.{MetSays, Says, nth_box, names_in, corners_by}
 use Rattle.passes.specs.Keeping.{keys_in}
 use Rattle.passes.specs.declared.CornerSet.{CornerSet}
@@ -131,7 +131,7 @@ module _ (plug : ℕ) (bs : List Box) (spans : All BoxInSpan bs) where
       let v = numbered (suc k) (nth_box bs k) c in
       let o = numbered_corner k h c in
       looks_then
-      (looks_corner view v (o.is ∙ corner_of_nth c bs k h) o.named (with_says plug v o.key view.cone) (met_says plug view.met v))
+      (looks_corner view v (o.is ∙ corner_of_nth c bs k h) o.named (with_says plug v view.cone) (met_says plug view.met v))
       (looks_names k h (view_with plug view v) cs)
 
   module _ (set : CornerSet) (start : View) where
@@ -174,6 +174,3 @@ module _ (plug : ℕ) (bs : List Box) (spans : All BoxInSpan bs) where
   view_says corner =
       subst (λ l. ViewSays bs l p (view_of plug corner bs)) (one_corner corner bs)
       ((looks_over (One corner) nothing_seen).says [] (record { of_cone = none; of_met = λ s. none }))
-
-  pub view_keyed : (corner : Corner) → Keyed (view_of plug corner bs).cone
-  view_keyed corner = says_keyed bs (corners_of corner bs) p (view_of plug corner bs).cone (view_says corner).of_cone

@@ -3,10 +3,10 @@
 #![tactic(auto)]
 
 ghost use Rattle.std.specs.Prelude.{◌≡◌, suc, ◌/◌, ◌<◌, length};
-ghost use Rattle.turns.specs.Keys.{Key, point_of};
+ghost use Rattle.turns.specs.Keys.{point_of};
 ghost use Rattle.rounds.specs.Boxes.{boxes_of};
 ghost use Rattle.cones.specs.Cones.{CornerOf};
-ghost use Rattle.cones.specs.Wider.{numbered, Keyed};
+ghost use Rattle.cones.specs.Wider.{numbered};
 ghost use Rattle.passes.specs.Passes.{nth_box, names_in};
 ghost use Rattle.views.specs.Views.{MetOn, CornerViewSays, nth_name, LooksOver};
 ghost use Rattle.views.specs.Looking.{met_with, looked_over, view_of};
@@ -15,14 +15,7 @@ use boxes::Boxes;
 use cones::{Cone, CornerKey};
 use passes::CornerSet;
 use rounds::Corner;
-
-// The four corners of a box, in the order in which they are looked at.
-const CORNERS: [Corner; 4] = [
-    Corner::SouthWest,
-    Corner::SouthEast,
-    Corner::NorthEast,
-    Corner::NorthWest,
-];
+use turns::Key;
 
 // The points so far, as seen from the plug.
 #[derive(Clone, Copy)]
@@ -47,12 +40,12 @@ fn nth_corner(boxes: Boxes, k: usize, corner: Corner) -> CornerKey
 }
 
 // Where the plug is met among the points so far and one more.
-fn meet(met: Option<CornerKey>, v: CornerKey, plug: u32) -> Option<CornerKey>
-    ensures exact { result ≡ met_with plug met v }
-    ensures met_on { MetOn (point_of plug) met v result }
+fn meet(met: Option<CornerKey>, v: &CornerKey, plug: Key) -> Option<CornerKey>
+    ensures exact { result ≡ met_with plug met v.now }
+    ensures met_on { MetOn (point_of plug) met v.now result }
 {
     if v.key == plug {
-        return Some(v);
+        return Some(*v);
     }
     met
 }
@@ -74,14 +67,13 @@ fn nth_name(set: CornerSet, j: usize) -> Corner
 {
     match set {
         CornerSet::One(corner) => corner,
-        CornerSet::Four => CORNERS[j],
+        CornerSet::Four => Corner::ALL[j],
     }
 }
 
 // The start's points and those corners of every box, as seen from the plug; no further than it is strictly inside.
 // One loop with a place within the box: a loop over a box's corners in the loop over the boxes took half as long again.
-pub fn look_over(boxes: Boxes, set: CornerSet, plug: u32, start: View) -> View
-    requires { Key plug × Keyed start.cone }
+pub fn look_over(boxes: Boxes, set: CornerSet, plug: Key, start: View) -> View
     ensures exact { result ≡ looked_over plug set 1 start (boxes_of boxes.entry.numbers.now) }
     ensures looks_over { LooksOver (boxes_of boxes.entry.numbers.now) (point_of plug) start set result }
 {
@@ -89,28 +81,27 @@ pub fn look_over(boxes: Boxes, set: CornerSet, plug: u32, start: View) -> View
     let each = corner_count(set);
     let mut cone = start.cone;
     let mut met = start.met;
-    let mut k = passes::pass_cone(boxes, set, 0, cone, plug);
+    let mut k = passes::pass_cone(boxes, set, 0, &cone, plug);
     let mut j: usize = 0;
     while k < count {
         let corner = nth_name(set, j);
         let v = nth_corner(boxes, k, corner);
+        met = meet(met, &v, plug);
         cone = cones::widen(cone, v, plug);
-        met = meet(met, v, plug);
         j += 1;
         if j == each {
             if let Cone::Around(_, _, _) = cone {
                 return View { cone, met };
             }
             j = 0;
-            k = passes::pass_cone(boxes, set, k + 1, cone, plug);
+            k = passes::pass_cone(boxes, set, k + 1, &cone, plug);
         }
     }
     View { cone, met }
 }
 
 // That one corner of every box, as seen from the plug.
-pub fn view_of(boxes: Boxes, corner: Corner, plug: u32) -> View
-    requires { Key plug }
+pub fn view_of(boxes: Boxes, corner: Corner, plug: Key) -> View
     ensures exact { result ≡ view_of plug corner (boxes_of boxes.entry.numbers.now) }
     ensures says { CornerViewSays (boxes_of boxes.entry.numbers.now) corner (point_of plug) result }
 {

@@ -1,44 +1,34 @@
 // The word of a plug against the five polygons of a round, which are made once for many plugs.
 #![tactic(auto)]
 
-ghost use Rattle.std.specs.Prelude.{◌≡◌};
-ghost use Rattle.std.proofs.Props.{props};
-ghost use Rattle.plane.specs.Props.{All-prop};
-ghost use Rattle.turns.specs.Keys.{Key};
-ghost use Rattle.locations.specs.Places.{KeyPolygon, PlaceOf};
+ghost use Rattle.std.specs.Prelude.{◌≡◌, ◌≤◌, length};
+ghost use Rattle.locations.specs.Places.{PlaceOf};
 ghost use Rattle.outlines.specs.RoundPolygons.{outer_vertices, corner_vertices};
-ghost use Rattle.words.specs.Words.{RoundKeys, WithinOf, WordIn};
+ghost use Rattle.words.specs.Words.{CountsFit, WithinOf, WordIn};
 
 use locations::Place;
 use outlines::RoundCounts;
 use rounds::{Corner, Word};
-
-// The four corner names, in the order of the corner polygons.
-pub const CORNERS: [Corner; 4] = [
-    Corner::SouthWest,
-    Corner::SouthEast,
-    Corner::NorthEast,
-    Corner::NorthWest,
-];
+use turns::Key;
 
 // The five polygons of a round: their vertices one polygon behind another, and how many each has.
 #[derive(Clone, Copy)]
 pub struct Polygons<'a> {
-    pub vertices: &'a [u32],
+    pub vertices: &'a [Key],
     pub counts: RoundCounts,
-    ghost keys: { RoundKeys vertices.now counts } by { Prim.hlevel (props, All-prop) },
+    ghost fit: { CountsFit vertices.now counts },
 }
 
 impl<'a> Polygons<'a> {
     // The vertices of the outer polygon.
-    pub fn outer(self) -> &'a [u32]
+    pub fn outer(self) -> &'a [Key]
         ensures { result.now ≡ outer_vertices self.entry.counts self.entry.vertices.now }
     {
         &self.vertices[..self.counts.outer]
     }
 
     // The vertices of a corner polygon.
-    pub fn of_corner(self, corner: Corner) -> &'a [u32]
+    pub fn of_corner(self, corner: Corner) -> &'a [Key]
         ensures { result.now ≡ corner_vertices self.entry.counts corner self.entry.vertices.now }
     {
         let counts = self.counts;
@@ -56,30 +46,30 @@ impl<'a> Polygons<'a> {
 }
 
 // Whether the plug is strictly within the polygon of the vertices.
-fn is_within(vertices: &[u32], plug: u32) -> bool
-    requires { KeyPolygon vertices.now plug }
+fn is_within(vertices: &[Key], plug: Key) -> bool
+    requires { 1 ≤ length vertices.now }
     ensures { WithinOf vertices.now plug result }
 {
     matches!(locations::place_of(vertices, plug), Place::Within)
 }
 
 // The word of a plug that is strictly within the outer polygon: inside, if it is strictly within each corner polygon.
-fn word_by_corners(polygons: Polygons, plug: u32) -> Word
-    requires key { Key plug }
-    requires place_of { PlaceOf (outer_vertices polygons.counts polygons.vertices.now) plug Place.Within }
+fn word_by_corners(polygons: Polygons, plug: Key) -> Word
+    requires { PlaceOf (outer_vertices polygons.counts polygons.vertices.now) plug Place.Within }
     ensures { WordIn polygons.entry.vertices.now polygons.entry.counts plug result }
 {
-    for corner in CORNERS {
-        if !is_within(polygons.of_corner(corner), plug) {
-            return Word::Undecided;
-        }
+    let inside = Corner::ALL
+        .iter()
+        .all(|corner| is_within(polygons.of_corner(*corner), plug));
+    if inside {
+        Word::Inside
+    } else {
+        Word::Undecided
     }
-    Word::Inside
 }
 
 // The word of a plug against the outer polygon and the four corner polygons of some boxes.
-pub fn word_in(polygons: Polygons, plug: u32) -> Word
-    requires { Key plug }
+pub fn word_in(polygons: Polygons, plug: Key) -> Word
     ensures { WordIn polygons.entry.vertices.now polygons.entry.counts plug result }
 {
     match locations::place_of(polygons.outer(), plug) {

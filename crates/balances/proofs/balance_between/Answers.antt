@@ -9,14 +9,14 @@ use Rattle.balances.proofs.Answering.{past_a, past_b, two_says}
 use Rattle.balances.proofs.balance_between.Goals as goal
 
 pub positive_dot_product-at_a-requires : goal.positive_dot_product-at_a-requires
-positive_dot_product-at_a-requires c = let w = c.requires.1 in record { key = (w.key_b, w.key_a, c.requires.0); pos_bound = past_b _ _ _ w }
+positive_dot_product-at_a-requires c = past_b _ _ _ c.requires
 
 pub positive_dot_product-at_b-requires : goal.positive_dot_product-at_b-requires
-positive_dot_product-at_b-requires c = let w = c.requires.1 in record { key = (w.key_a, w.key_b, c.requires.0); pos_bound = past_a _ _ _ w }
+positive_dot_product-at_b-requires c = past_a _ _ _ c.requires
 
 pub returns : goal.returns
 returns c =
     let e : Some (entries c.entry_of.result c.entry_of-2.result c.entry_of-3.result) ≡ between_two c.args.plug c.args.a c.args.b =
     rw (c.entry_of.ensures, c.entry_of-2.ensures, c.entry_of-3.ensures)
     (ap₂ (λ m n. Some (entries (entry_of c.args.a m) (entry_of c.args.b n) (entry_of c.args.a 0))) (ap nat_abs c.positive_dot_product-at_a.ensures) (ap nat_abs c.positive_dot_product-at_b.ensures)) in
-    record { exact = e; balances = two_says c.args.plug c.requires.0 c.args.a c.args.b c.requires.1 e }
+    record { exact = e; balances = two_says c.args.plug c.args.a c.args.b c.requires e }

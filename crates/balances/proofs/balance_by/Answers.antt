@@ -8,11 +8,11 @@ use Rattle.balances.proofs.balance_by.Goals as goal
 
 pub returns-in-Some : goal.returns-in-Some
 returns-in-Some c =
-    let e : Some (entries c.entry_of.result c.entry_of-in-Some.result c.entry_of-in-Some-2.result) ≡ balance_of_view c.args.plug c.args.view =
-    rw (c.entry_of.ensures, c.entry_of-in-Some.ensures, c.entry_of-in-Some-2.ensures) (ap (λ m. balance_by_met c.args.plug m c.args.view.cone) (sym c.in-Some.is)) in
-    record { exact = e; balances = by_view c.args.plug c.requires.0 c.args.view e }
+    let e : Some (entries c.entry_of.result c.entry_of-in-Some.result c.entry_of-in-Some-2.result) ≡ balance_of_view c.args.plug c.args.view.now =
+    rw (c.entry_of.ensures, c.entry_of-in-Some.ensures, c.entry_of-in-Some-2.ensures) (ap (λ m. balance_by_met c.args.plug m c.args.view.now.cone) (sym c.in-Some.is)) in
+    record { exact = e; balances = by_view c.args.plug c.args.view.now e }
 
 pub returns : goal.returns
 returns c =
-    let e = c.balance_by_cone.ensures.exact ∙ ap (λ m. balance_by_met c.args.plug m c.args.view.cone) (sym c.in_default.is) in
-    record { exact = e; balances = by_view c.args.plug c.requires.0 c.args.view e }
+    let e = c.balance_by_cone.ensures.exact ∙ ap (λ m. balance_by_met c.args.plug m c.args.view.now.cone) (sym c.in_default.is) in
+    record { exact = e; balances = by_view c.args.plug c.args.view.now e }

@@ -10,25 +10,23 @@ use Rattle.balances.proofs.Answering.{line_between, half_between, cone_says}
 use Rattle.balances.proofs.balance_by_cone.Goals as goal
 
 pub balance_between-requires : goal.balance_between-requires
-balance_between-requires c = (
-  c.requires.0,
-  ⊎_elim
-      (λ e. line_between _ _ _ (subst (Known (point_of c.args.plug)) e c.requires.1).says)
-      (λ e. half_between _ _ _ (subst (Known (point_of c.args.plug)) e c.requires.1).says)
-      c.in-Line.is,
-)
+balance_between-requires c =
+    ⊎_elim
+    (λ e. line_between _ _ _ (subst (Known (point_of c.args.plug)) e c.requires).says)
+    (λ e. half_between _ _ _ (subst (Known (point_of c.args.plug)) e c.requires).says)
+    c.in-Line.is
 
 pub returns-in-Nothing-clause-balances : goal.returns-in-Nothing-clause-balances
 returns-in-Nothing-clause-balances c =
     let e : None ≡ balance_of_cone c.args.plug c.args.cone = search rules in
-    cone_says c.args.plug c.requires.0 c.args.cone c.requires.1 e
+    cone_says c.args.plug c.args.cone c.requires e
 
 pub returns-in-Line-clause-balances : goal.returns-in-Line-clause-balances
 returns-in-Line-clause-balances c =
     let e : c.balance_between.result ≡ balance_of_cone c.args.plug c.args.cone = search rules in
-    cone_says c.args.plug c.requires.0 c.args.cone c.requires.1 e
+    cone_says c.args.plug c.args.cone c.requires e
 
 pub returns-in-Around-clause-balances : goal.returns-in-Around-clause-balances
 returns-in-Around-clause-balances c =
     let e : c.balance_in_triangle.result ≡ balance_of_cone c.args.plug c.args.cone = search rules in
-    cone_says c.args.plug c.requires.0 c.args.cone c.requires.1 e
+    cone_says c.args.plug c.args.cone c.requires e

@@ -5,10 +5,10 @@ use Rattle.integers.proofs.Tests.{lit, ltz}
 use Rattle.rounds.specs.Refusals.{beyond}
 use Rattle.bounds.proofs.is_beyond.Goals as goal
 
-pub returns-then-x-lt-LEAST : goal.returns-then-x-lt-LEAST
+pub returns-then-x : goal.returns-then-x
 unfolding beyond
-returns-then-x-lt-LEAST c = rw (sym (ltz c.ranges.x (lit (negsuc 15999) tt)) ∙ c.if-x-lt-LEAST.true)
+returns-then-x c = rw (sym (ltz c.ranges.x (lit (negsuc 15999) tt)) ∙ c.if-x.true) c.if-x.true
 
-pub returns : goal.returns
+pub returns-else-x : goal.returns-else-x
 unfolding beyond
-returns c = rw (sym (ltz c.ranges.x (lit (negsuc 15999) tt)) ∙ c.if-x-lt-LEAST.false) (ltz (lit (pos 16000) tt) c.ranges.x)
+returns-else-x c = rw (sym (ltz c.ranges.x (lit (negsuc 15999) tt)) ∙ c.if-x.false) (ltz (lit (pos 16000) tt) c.ranges.x)

@@ -4,12 +4,12 @@ use mathlib.Core.Bool.{Bool, true, false, ◌||◌}
 use Prim.Native.Nat.{ℕ}
 use native.Mathlib.Omega.{arith}
 use Rattle.rounds.specs.Refusals.{box_fault}
-use Rattle.rounds.proofs.Accepted.{or_false}
+use Rattle.std.proofs.lemmas.Bool.{or_parts}
 use Rattle.box_checks.proofs.check_box.Goals as goal
 
 -- one of two, and not the first
 second : (a b : Bool) → (a || b) ≡ true → a ≡ false → b ≡ true
-second true b h e = let z : ◌≡◌ {A = ℕ} 0 1 = cc in absurd (omega arith)
+second true b h e = absurd (cc)
 second false b h e = h
 
 pub returns-then-not-beyond-reversed : goal.returns-then-not-beyond-reversed
@@ -17,7 +17,7 @@ unfolding box_fault
 returns-then-not-beyond-reversed c =
     let x = c.has_edge_beyond-beyond in
     let y = c.is_reversed-reversed in
-    let o = or_false x.result y.result c.if-not-beyond-reversed.true in
+    let o = or_parts x.result y.result c.if-not-beyond-reversed.true in
     simp (sym x.ensures ∙ o.0, sym y.ensures ∙ o.1)
 
 pub returns-then-beyond : goal.returns-then-beyond

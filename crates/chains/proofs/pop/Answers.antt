@@ -1,43 +1,46 @@
 -- `chains::pop` meets its contract. The invariant: between 1 and k vertices are left, and no side that went turns right to r. Assumes nothing.
 use mathlib.Core.List.{List}
-use mathlib.Core.Path.{◌≡◌}
+use mathlib.Core.Path.{◌≡◌, ◌∙◌}
 use Prim.Native.Nat.{ℕ, suc, ◌+◌, ◌-◌, ◌≤◌, ◌<◌}
 use native.Mathlib.Decide.{dec_lt}
 use native.Mathlib.Omega.{arith}
 use lib.IntN.{pos}
 use lib.Signed.{◌≤ℤ◌, ◌<ℤ◌}
+use Rattle.std.proofs.lemmas.Grind.{get_or_default_zero}
 use Rattle.chains.specs.Chains.{turn}
 use Rattle.orders.specs.Order.{get}
 use Rattle.chains.proofs.Turning.{right_if, not_right_if}
 use Rattle.chains.proofs.pop.Goals as goal
 
 -- the code reads at n - 1 - 1 and n - 1, the specs at j and suc j
-at_top : (s : List ℕ) (r n j : ℕ) → suc (suc j) ≡ n - 1 + 1 → 1 < n → turn (get s (n - 1 - 1)) (get s (n - 1)) r <ℤ pos 0 → turn (get s j) (get s (suc j)) r <ℤ pos 0
-at_top s r n j e l h =
+at_top : (s : List ℕ) (r n j x y : ℕ) → x ≡ get s (n - 1 - 1) → y ≡ get s (n - 1) → suc (suc j) ≡ n - 1 + 1 → 1 < n → turn x y r <ℤ pos 0 → turn (get s j) (get s (suc j)) r <ℤ pos 0
+at_top s r n j x y p q e l h =
     let a : n - 1 - 1 ≡ j = omega arith in
     let b : n - 1 ≡ suc j = omega arith in
-    rw (a, b) at h
+    rw (p, q, a, b) at h
 
 -- one more side went
-at-gone : (s : List ℕ) (r k n : ℕ) → ((j : ℕ) → n ≤ suc j → suc j < k → pos 0 ≤ℤ turn (get s j) (get s (suc j)) r)
-    → pos 0 ≤ℤ turn (get s (n - 1 - 1)) (get s (n - 1)) r → (j : ℕ) → n - 1 ≤ suc j → suc j < k → pos 0 ≤ℤ turn (get s j) (get s (suc j)) r
-at-gone s r k n f h j l o = go (dec_lt (suc j) n)
+at-gone : (s : List ℕ) (r k n x y : ℕ) → x ≡ get s (n - 1 - 1) → y ≡ get s (n - 1) → ((j : ℕ) → n ≤ suc j → suc j < k → pos 0 ≤ℤ turn (get s j) (get s (suc j)) r)
+    → pos 0 ≤ℤ turn x y r → (j : ℕ) → n - 1 ≤ suc j → suc j < k → pos 0 ≤ℤ turn (get s j) (get s (suc j)) r
+at-gone s r k n x y p q f h j l o = go (dec_lt (suc j) n)
   where
     go : Dec (suc j < n) → pos 0 ≤ℤ turn (get s j) (get s (suc j)) r
     go (yes z) =
         let a : n - 1 - 1 ≡ j = omega arith in
         let b : n - 1 ≡ suc j = omega arith in
-        rw (a, b) at h
+        rw (p, q, a, b) at h
     go (no z) = f j (omega arith) o
 
 pub returns-then-turns_right : goal.returns-then-turns_right
 returns-then-turns_right c =
     let l = c.loop-n in
     let s = c.args in
+    let below = c.index-stack-n.is ∙ get_or_default_zero s.stack.now (l.n - 1 - 1) c.index-stack-n.result (omega arith) in
+    let top = c.index-stack-n-in-loop-n.is ∙ get_or_default_zero s.stack.now (l.n - 1) c.index-stack-n-in-loop-n.result (omega arith) in
     record {
       some = omega arith;
       most = omega arith;
-      bend = λ j e. at_top s.stack.now s.r l.n j e (omega arith) (right_if _ _ _ _ c.turns_right.ensures c.if-turns_right.true);
+      bend = λ j e. at_top s.stack.now s.r l.n j _ _ below top e (omega arith) (right_if _ _ _ _ c.turns_right.ensures c.if-turns_right.true);
       gone = λ j e h. l.invariant.1 j (omega arith) h;
     }
 
@@ -45,13 +48,6 @@ pub loop-n-preserved : goal.loop-n-preserved
 loop-n-preserved c =
     let l = c.loop-n in
     let s = c.args in
-    (omega arith, at-gone s.stack.now s.r s.k l.n l.invariant.1 (not_right_if _ _ _ _ c.turns_right.ensures c.if-turns_right.false))
-
-pub returns : goal.returns
-returns c =
-    record {
-      some = omega arith;
-      most = omega arith;
-      bend = λ j e. absurd (omega arith);
-      gone = λ j e h. c.loop-n.invariant.1 j (omega arith) h;
-    }
+    let below = c.index-stack-n.is ∙ get_or_default_zero s.stack.now (l.n - 1 - 1) c.index-stack-n.result (omega arith) in
+    let top = c.index-stack-n-in-loop-n.is ∙ get_or_default_zero s.stack.now (l.n - 1) c.index-stack-n-in-loop-n.result (omega arith) in
+    (omega arith, at-gone s.stack.now s.r s.k l.n _ _ below top l.invariant.1 (not_right_if _ _ _ _ c.turns_right.ensures c.if-turns_right.false))

@@ -6,4 +6,4 @@ use Rattle.chains.specs.Chains.{Chain, framed}
 use Rattle.chains.proofs.upper_chain.Given as goal
 
 abbrev pub invariant-loop-r : goal.invariant-loop-r
-invariant-loop-r l = Chain (framed l.first l.keys l.last) (suc l.r-index) (get l.stack) l.k
+invariant-loop-r l = Chain (framed l.fn.ends.first l.keys l.fn.ends.last) (suc l.r-index) (get l.stack) l.k

@@ -1,13 +1,12 @@
 -- `corner_lists::lower_keys` meets its contract: reflected, the south-eastern and the south-western corners are the widest of every box. Assumes nothing.
-use mathlib.Core.Path.{◌≡◌, ◌∙◌, ap}
+use mathlib.Core.Path.{◌≡◌, ◌∙◌}
 use mathlib.Core.List.{List, ◌++◌}
 use Prim.Native.Nat.{ℕ, ◌+◌, ◌/◌, ◌≤◌, ◌<◌}
 use native.Mathlib.Omega.{arith}
 use lib.IntN.{ℤ}
 use lib.ListN.{length, take, drop}
-use Rattle.std.proofs.lemmas.List.{take_at}
 use Rattle.turns.specs.Reflection.{reflected, opposite}
-use Rattle.turns.proofs.Reflection.{reflected_key, reflected_point, reflected_le}
+use Rattle.turns.proofs.Reflection.{reflected_point, reflected_le}
 use Rattle.orders.specs.Order.{get}
 use Rattle.rounds.specs.Boxes.{BoxList, boxes_of, corners_of, all_corners}
 use Rattle.rounds.specs.declared.Corner.TheVariants.{SouthEast, SouthWest}
@@ -16,57 +15,48 @@ use Rattle.corner_lists.specs.KeyLists.{KeysOf}
 use Rattle.corner_lists.specs.ChainKeys.{Reflects, PointEnds, ChainRoom, ChainKeys}
 use Rattle.corner_lists.proofs.Boxes.{widest_south}
 use Rattle.corner_lists.proofs.Ends.{HoldsKeys}
-use Rattle.corner_lists.proofs.Chains.{both_taken, both_keys, left_held, right_held, upper_input, chain_keys}
+use Rattle.corner_lists.proofs.Chains.{both_taken, left_held, right_held, upper_input, chain_keys}
 use Rattle.corner_lists.proofs.lower_keys.Goals as goal
 
 -- rs are the first keys, reflected
 module _ (l : List ℤ) (bl : BoxList l) (n : ℕ) (is : n ≡ length l / 4) (ks : List ℕ) (room : n + n ≤ length ks)
     (kk : KeysOf (corners_of SouthEast (boxes_of l) ++ corners_of SouthWest (boxes_of l)) ks)
     (rs : List ℕ) (long : length rs ≡ length (take (n + n) ks)) (r : Reflects (take (n + n) ks) rs (length (take (n + n) ks))) where
-  abbrev mirror : List ℕ
-  mirror = take (n + n) (rs ++ drop (n + n) ks)
-
   taken : length (take (n + n) ks) ≡ n + n
   taken = both_taken l SouthEast SouthWest n is ks room kk
 
-  mirror_is : mirror ≡ rs
-  mirror_is = take_at rs (drop (n + n) ks) (n + n) (long ∙ taken)
+  reflected_length : length rs ≡ n + n
+  reflected_length = long ∙ taken
 
-  mirror_length : length mirror ≡ n + n
-  mirror_length = ap length mirror_is ∙ long ∙ taken
+  same : (i : ℕ) → i < n + n → get rs i ≡ reflected (get (take (n + n) ks) i)
+  same i h = r.at i (omega (arith, taken))
 
-  same : (i : ℕ) → i < n + n → get mirror i ≡ reflected (get (take (n + n) ks) i)
-  same i h = ap (λ ms. get ms i) mirror_is ∙ r.at i (omega (arith, taken))
+  left : HoldsKeys reflected l SouthEast (take n rs)
+  left = left_held l SouthEast SouthWest n is ks room kk reflected rs reflected_length same
 
-  left : HoldsKeys reflected l SouthEast (take n mirror)
-  left = left_held l SouthEast SouthWest n is ks room kk reflected mirror mirror_length same
-
-  right : HoldsKeys reflected l SouthWest (drop n mirror)
-  right = right_held l SouthEast SouthWest n is ks room kk reflected mirror mirror_length same
+  right : HoldsKeys reflected l SouthWest (drop n rs)
+  right = right_held l SouthEast SouthWest n is ks room kk reflected rs reflected_length same
 
   input : {first last first' last' : ℕ} {list keys scratch : List ℕ} → last' ≡ reflected last → first' ≡ reflected first → PointEnds (all_corners (boxes_of l)) first last
-      → ChainRoom (length l / 4) list keys scratch → UpperInput (take n mirror) (drop n mirror) last' first' list scratch
+      → ChainRoom (length l / 4) list keys scratch → UpperInput (take n rs) (drop n rs) last' first' list scratch
   input p q e room =
       rw (p, q)
-      (upper_input reflected opposite (λ x h. reflected_point h) (λ x h. reflected_key h) SouthEast SouthWest widest_south l bl _ _ left right
-      (reflected_key e.last_in.key) (reflected_key e.first_in.key) (λ x i. reflected_le (e.most x i)) (λ x i. reflected_le (e.least x i)) room)
+      (upper_input reflected opposite (λ x h. reflected_point h) SouthEast SouthWest widest_south l bl _ _ left right
+      (λ x i. reflected_le (e.most x i)) (λ x i. reflected_le (e.least x i)) room)
 
   chain : (first last : ℕ) {first' last' : ℕ} → last' ≡ reflected last → first' ≡ reflected first → (out : List ℕ) (u : ℕ)
-      → UpperList (take n mirror) (drop n mirror) last' first' out u → ChainKeys reflected (all_corners (boxes_of l)) (length l / 4) (reflected last) (reflected first) out u
+      → UpperList (take n rs) (drop n rs) last' first' out u → ChainKeys reflected (all_corners (boxes_of l)) (length l / 4) (reflected last) (reflected first) out u
   chain first last p q out u ul =
-      chain_keys reflected opposite (λ x h. reflected_point h) (λ x h. reflected_key h) SouthEast SouthWest widest_south l bl _ _ left right (reflected last) (reflected first) out u
+      chain_keys reflected opposite (λ x h. reflected_point h) SouthEast SouthWest widest_south l bl _ _ left right (reflected last) (reflected first) out u
       (rw (← p, ← q) ul)
 
-pub reflect_keys-requires : goal.reflect_keys-requires
-reflect_keys-requires c =
-    both_keys c.args.boxes.numbers.now SouthEast SouthWest c.len-n.result c.len-n.ensures c.put_two_corners.new.keys (omega (arith, c.requires.chain_room.in_keys)) c.put_two_corners.ensures
-
-pub upper_list-requires-clause-upper_input : goal.upper_list-requires-clause-upper_input
-upper_list-requires-clause-upper_input c =
-    input c.args.boxes.numbers.now c.args.boxes.accepted c.len-n.result c.len-n.ensures c.put_two_corners.new.keys (omega (arith, c.requires.chain_room.in_keys)) c.put_two_corners.ensures
-    c.reflect_keys.new.keys c.reflect_keys.auto.keys c.reflect_keys.ensures c.reflected.ensures c.reflected-2.ensures c.requires.point_ends c.requires.chain_room
+pub upper_list-requires : goal.upper_list-requires
+upper_list-requires c =
+    rw (c.split_at.ensures.front, c.split_at.ensures.back)
+    (input c.args.boxes.numbers.now c.args.boxes.accepted c.len-n.result c.len-n.ensures c.put_two_corners.new.keys (omega (arith, c.requires.chain_room.in_keys)) c.put_two_corners.ensures
+    c.reflect_keys.new.keys c.reflect_keys.auto.keys c.reflect_keys.ensures c.reflected.ensures.first c.reflected.ensures.last c.requires.point_ends c.requires.chain_room)
 
 pub returns : goal.returns
 returns c =
     chain c.args.boxes.numbers.now c.args.boxes.accepted c.len-n.result c.len-n.ensures c.put_two_corners.new.keys (omega (arith, c.requires.chain_room.in_keys)) c.put_two_corners.ensures
-    c.reflect_keys.new.keys c.reflect_keys.auto.keys c.reflect_keys.ensures c.args.ends.first c.args.ends.last c.reflected.ensures c.reflected-2.ensures c.upper_list.new.out c.upper_list.result c.upper_list.ensures
+    c.reflect_keys.new.keys c.reflect_keys.auto.keys c.reflect_keys.ensures c.args.ends.now.first c.args.ends.now.last c.reflected.ensures.first c.reflected.ensures.last c.upper_list.new.out c.upper_list.result (rw (← c.split_at.ensures.front, ← c.split_at.ensures.back) c.upper_list.ensures)

@@ -4,4 +4,4 @@ use Rattle.corner_lists.proofs.Filling.{Filled}
 use Rattle.corner_lists.proofs.put_corner_keys.Given as goal
 
 abbrev pub invariant-loop-k : goal.invariant-loop-k
-invariant-loop-k l = Filled (corners_of l.corner (boxes_of l.boxes.numbers.now)) l.keys l.k
+invariant-loop-k l = Filled (corners_of l.corner (boxes_of l.boxes.numbers.now)) l.key-items l.k

@@ -26,19 +26,20 @@ module _ (l : List ℤ) (bl : BoxList l) (n : ℕ) (is : n ≡ length l / 4) (ks
   input : {first last : ℕ} {list keys scratch : List ℕ} → PointEnds (all_corners (boxes_of l)) first last → ChainRoom (length l / 4) list keys scratch
       → UpperInput (take n (take (n + n) ks)) (drop n (take (n + n) ks)) first last list scratch
   input e r =
-      upper_input (λ k. k) (λ q. q) (λ x h. refl) (λ x h. h) NorthWest NorthEast widest_north l bl _ _ left right e.first_in.key e.last_in.key e.least e.most r
+      upper_input (λ k. k) (λ q. q) (λ x h. refl) NorthWest NorthEast widest_north l bl _ _ left right e.least e.most r
 
   chain : (first last : ℕ) (out : List ℕ) (u : ℕ) → UpperList (take n (take (n + n) ks)) (drop n (take (n + n) ks)) first last out u
       → ChainKeys (λ k. k) (all_corners (boxes_of l)) (length l / 4) first last out u
   chain first last out u ul =
-      chain_keys (λ k. k) (λ q. q) (λ x h. refl) (λ x h. h) NorthWest NorthEast widest_north l bl _ _ left right first last out u ul
+      chain_keys (λ k. k) (λ q. q) (λ x h. refl) NorthWest NorthEast widest_north l bl _ _ left right first last out u ul
 
-pub upper_list-requires-clause-upper_input : goal.upper_list-requires-clause-upper_input
-upper_list-requires-clause-upper_input c =
-    input c.args.boxes.numbers.now c.args.boxes.accepted c.len-n.result c.len-n.ensures c.put_two_corners.new.keys (omega (arith, c.requires.chain_room.in_keys)) c.put_two_corners.ensures
-    c.requires.point_ends c.requires.chain_room
+pub upper_list-requires : goal.upper_list-requires
+upper_list-requires c =
+    rw (c.split_at.ensures.front, c.split_at.ensures.back)
+    (input c.args.boxes.numbers.now c.args.boxes.accepted c.len-n.result c.len-n.ensures c.put_two_corners.new.keys (omega (arith, c.requires.chain_room.in_keys)) c.put_two_corners.ensures
+    c.requires.point_ends c.requires.chain_room)
 
 pub returns : goal.returns
 returns c =
     chain c.args.boxes.numbers.now c.args.boxes.accepted c.len-n.result c.len-n.ensures c.put_two_corners.new.keys (omega (arith, c.requires.chain_room.in_keys)) c.put_two_corners.ensures
-    c.args.ends.first c.args.ends.last c.upper_list.new.out c.upper_list.result c.upper_list.ensures
+    c.args.ends.now.first c.args.ends.now.last c.upper_list.new.out c.upper_list.result (rw (← c.split_at.ensures.front, ← c.split_at.ensures.back) c.upper_list.ensures)

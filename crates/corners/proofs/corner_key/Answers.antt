@@ -8,13 +8,13 @@ use Rattle.corners.proofs.Places.{nth_corner_lem, nth_in_span}
 use Rattle.corners.proofs.corner_key.Goals as goal
 use Rattle.corners.proofs.corner_key.Goals.{After-corner}
 
--- the point that key_of is passed is the corner
+-- the point that `Key::new` is passed is the corner
 is-corner : (c : After-corner) → c.corner.result ≡ nth_corner c.args.corner (boxes_of c.args.boxes.numbers.now) c.args.k
 is-corner c = c.corner.ensures ∙ ap (corner_of c.args.corner) c.at.ensures ∙ nth_corner_lem c.args.corner c.args.boxes.numbers.now c.args.k c.requires
 
-pub key_of-requires : goal.key_of-requires
-key_of-requires c =
+pub new-requires : goal.new-requires
+new-requires c =
     subst InSpan (sym (is-corner c)) (nth_in_span c.args.corner c.args.boxes.numbers.now c.args.boxes.accepted c.args.k c.requires)
 
 pub returns : goal.returns
-returns c = subst (λ q. KeyOf q c.key_of.result) (is-corner c.before) c.key_of.ensures
+returns c = subst (λ q. KeyOf q c.new.result) (is-corner c.before) c.new.ensures

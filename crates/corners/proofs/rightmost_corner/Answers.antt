@@ -33,19 +33,19 @@ answer s e = subst (Rightmost (point_of s.args.from) (point_of s.args.to)) e (lo
 pub returns-then-north-ge0 : goal.returns-then-north-ge0
 returns-then-north-ge0 c =
     answer c.before.before.before.before
-    (lowest_south_west _ _ (onward c.north_between-east.type_inv c.north_between-east.ensures c.if-east-ge0.true) (onward c.east_between-north.type_inv c.east_between-north.ensures c.if-north-ge0.true))
+    (lowest_south_west _ _ (onward c.north_between-east.type_inv c.north_between-east.ensures.value c.if-east-ge0.true) (onward c.east_between-north.type_inv c.east_between-north.ensures.value c.if-north-ge0.true))
 
 pub returns-then-east-ge0 : goal.returns-then-east-ge0
 returns-then-east-ge0 c =
     answer c.before.before.before.before
-    (lowest_north_west _ _ (onward c.north_between-east.type_inv c.north_between-east.ensures c.if-east-ge0.true) (back c.east_between-north.type_inv c.east_between-north.ensures c.if-north-ge0.false))
+    (lowest_north_west _ _ (onward c.north_between-east.type_inv c.north_between-east.ensures.value c.if-east-ge0.true) (back c.east_between-north.type_inv c.east_between-north.ensures.value c.if-north-ge0.false))
 
 pub returns-then-north-ge0-2 : goal.returns-then-north-ge0-2
 returns-then-north-ge0-2 c =
     answer c.before.before.before.before
-    (lowest_south_east _ _ (back c.north_between-east.type_inv c.north_between-east.ensures c.if-east-ge0.false) (onward c.east_between-north.type_inv c.east_between-north.ensures c.if-north-ge0-2.true))
+    (lowest_south_east _ _ (back c.north_between-east.type_inv c.north_between-east.ensures.value c.if-east-ge0.false) (onward c.east_between-north.type_inv c.east_between-north.ensures.value c.if-north-ge0-2.true))
 
 pub returns : goal.returns
 returns c =
     answer c.before.before.before.before
-    (lowest_north_east _ _ (back c.north_between-east.type_inv c.north_between-east.ensures c.if-east-ge0.false) (back c.east_between-north.type_inv c.east_between-north.ensures c.if-north-ge0-2.false))
+    (lowest_north_east _ _ (back c.north_between-east.type_inv c.north_between-east.ensures.value c.if-east-ge0.false) (back c.east_between-north.type_inv c.east_between-north.ensures.value c.if-north-ge0-2.false))

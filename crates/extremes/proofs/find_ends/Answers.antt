@@ -1,9 +1,11 @@
--- `extremes::find_ends` meets its contract. The invariant: of the first i keys, first is the least and last the greatest. Assumes nothing.
-use Rattle.std.proofs.Common.{◌≡◌, ℕ, ◌+◌, ◌<◌, ◌≤◌, List, length, refl, arith}
+-- `extremes::find_ends` meets its contract. Assumes nothing.
+use Rattle.std.proofs.Common.{◌≡◌, ℕ, ◌+◌, ◌<◌, ◌≤◌, List, length, map, refl, arith}
+use Rattle.std.proofs.lemmas.List.{length-map}
 use native.Mathlib.Decide.{dec_lt}
+use Rattle.codes.proofs.Codes.{code_read}
 use Rattle.orders.specs.Order.{get}
-use Rattle.extremes.specs.Inner.{Lesser, Greater}
-use Rattle.extremes.proofs.Dropping.{lesser, greater, taken}
+use Rattle.extremes.specs.Inner.{Among, Lesser, Greater}
+use Rattle.extremes.proofs.Dropping.{taken}
 use Rattle.extremes.proofs.find_ends.Goals as goal
 use Rattle.extremes.proofs.find_ends.Invariants.{Sofar}
 
@@ -11,8 +13,8 @@ more : (l : List ℕ) (i first last a b : ℕ) → i < length l → Sofar l i fi
 more l i first last a b h s x y =
     record {
       i_in = omega arith;
-      first_in = taken (λ k. k) l i h s.first_in refl x.either;
-      last_in = taken (λ k. k) l i h s.last_in refl y.either;
+      first_in = taken (Among (get l) (length l)) s.first_in (i, h, refl) x.either;
+      last_in = taken (Among (get l) (length l)) s.last_in (i, h, refl) y.either;
       least = λ j o. least j o (dec_lt j i);
       most = λ j o. most j o (dec_lt j i);
     }
@@ -25,7 +27,10 @@ more l i first last a b h s x y =
     most j o (yes k) = omega (arith, s.most j k, y.first)
     most j o (no k) = let e : j ≡ i = omega arith in rw e y.second
 
-pub loop-key-preserved : goal.loop-key-preserved
-loop-key-preserved c =
-    let l = c.loop-key in
-    more c.args.keys.now l.key-index l.first l.last c.min-first.result c.max-last.result (omega arith) l.invariant (lesser c.min-first.ensures) (greater c.max-last.ensures)
+pub loop-value-preserved : goal.loop-value-preserved
+loop-value-preserved g c =
+    let code = g.T.Coded.code in
+    let values = c.args.values.now in
+    let l = c.loop-value in
+    let read = code_read code values l.value-index _ (omega arith) c.value-item.is in
+    more (map code values) l.value-index _ _ _ _ (omega (arith, length-map values code)) l.invariant (rw (← read) c.lesser-first.ensures) (rw (← read) c.greater-last.ensures)

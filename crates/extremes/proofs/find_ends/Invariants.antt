@@ -1,5 +1,5 @@
--- `extremes::find_ends` meets its contract. The invariant: of the first i keys, first is the least and last the greatest. Assumes nothing.
-use Rattle.std.proofs.Common.{◌≡◌, ℕ, ◌<◌, ◌≤◌, List, length}
+-- `extremes::find_ends` meets its contract. The invariant: of the first i values, first is the least and last the greatest. Assumes nothing.
+use Rattle.std.proofs.Common.{◌≡◌, ℕ, ◌<◌, ◌≤◌, List, length, map}
 use Rattle.orders.specs.Order.{get}
 use Rattle.extremes.proofs.find_ends.Given as goal
 
@@ -11,5 +11,5 @@ pub record Sofar (l : List ℕ) (i first last : ℕ) : Type 0 where
   pub least : (j : ℕ) → j < i → first ≤ get l j
   pub most : (j : ℕ) → j < i → get l j ≤ last
 
-abbrev pub invariant-loop-key : goal.invariant-loop-key
-invariant-loop-key l = Sofar l.keys l.key-index l.first l.last
+abbrev pub invariant-loop-value : goal.invariant-loop-value
+invariant-loop-value g l = Sofar (map g.T.Coded.code l.values) l.value-index (g.T.Coded.code l.first) (g.T.Coded.code l.last)

@@ -2,11 +2,12 @@
 use native.Mathlib.Omega.{arith}
 use lib.ListN.{length-set}
 use lib.Seq.{get_or-set_same}
+use Rattle.std.proofs.lemmas.List.{map-id}
 use Rattle.hulls.proofs.Made.{made_one}
 use Rattle.hulls.proofs.polygon.Goals as goal
 
-pub returns-then-ends : goal.returns-then-ends
-returns-then-ends c =
+pub returns-then-le : goal.returns-then-le
+returns-then-le c =
     let f = c.find_ends-ends in
-    made_one c.args.keys.now _ f.result.first f.result.last c.requires.in_bounds.0 (simp length-set (omega (arith, c.requires.in_bounds)))
-    c.requires.all_keys f.ensures c.if-ends.true (get_or-set_same c.args.vertices.now 0 f.result.first 0 (omega (arith, c.requires.in_bounds)))
+    made_one c.args.keys.now _ f.result.first f.result.last c.requires.0 (simp length-set (omega arith))
+    (rw map-id at f.ensures) (grind (arith, c.le.ensures, c.if-le.true)) (get_or-set_same c.args.vertices.now 0 f.result.first 0 (omega arith))

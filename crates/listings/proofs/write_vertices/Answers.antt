@@ -1,5 +1,5 @@
 -- `listings::write_vertices` meets its contract. The invariant: the numbers of the first k vertices are written over the front. Assumes nothing.
-use mathlib.Core.Path.{◌≡◌, refl, sym, ◌∙◌, ap}
+use mathlib.Core.Path.{◌≡◌, sym, ◌∙◌, ap}
 use mathlib.Core.List.{List, map}
 use Prim.Native.Nat.{ℕ, ◌+◌, ◌*◌, ◌<◌}
 use native.Mathlib.Omega.{arith}
@@ -8,8 +8,9 @@ use lib.ListN.{length, get_or, length-map}
 use mir.Syntax.{w32}
 use mir.Val.{SFits, to_z, of_z}
 use mir.ValLaws.{to_z-of_z}
+use Rattle.std.proofs.lemmas.Grind.{get_or_default_zero}
 use Rattle.integers.proofs.Tests.{ok}
-use Rattle.plane.proofs.Lists.{index_of_all, map_at}
+use Rattle.plane.proofs.Lists.{map_at}
 use Rattle.turns.specs.Keys.{point_of}
 use Rattle.listings.specs.Listings.{flat}
 use Rattle.listings.proofs.Writing.{partly, partly_all, two_more, flat_length, flat_east, flat_north}
@@ -25,26 +26,18 @@ module _ (ks : List ℕ) (i : ℕ) (r : ℤ) (l : i < length ks) (f : SFits w32 
   north_is e =
       to_z-of_z w32 r f ∙ e ∙ sym (flat_north (point_of 0) (map point_of ks) i (omega (arith, length-map ks point_of)) ∙ ap (λ q. q.north) (map_at point_of 0 (point_of 0) ks i l))
 
-pub loop-k-init : goal.loop-k-init
-loop-k-init c = refl
-
-pub east_of-requires : goal.east_of-requires
-east_of-requires c = index_of_all 0 c.requires.0 c.loop-k.k (omega arith)
-
-pub north_of-requires : goal.north_of-requires
-north_of-requires c = index_of_all 0 c.requires.0 c.loop-k.k (omega arith)
-
 pub loop-k-preserved : goal.loop-k-preserved
 loop-k-preserved c =
     let l = c.loop-k in
-    let e = c.east_of in
-    let n = c.north_of in
+    let e = c.east in
+    let n = c.north in
     let ks = c.args.keys.now in
     let vs = map point_of ks in
     let twice : length (flat vs) ≡ length ks * 2 = flat_length vs ∙ ap (λ m. m * 2) (length-map ks point_of) in
     let next : l.k * 2 + 1 + 1 ≡ (l.k + 1) * 2 = omega arith in
-    let east = east_is ks l.k e.result (omega arith) (ok e.result e.type_inv) e.ensures in
-    let north = north_is ks l.k n.result (omega arith) (ok n.result n.type_inv) n.ensures in
+    let read = c.index-keys-k.is ∙ get_or_default_zero ks l.k c.index-keys-k.result (omega arith) in
+    let east = east_is ks l.k e.result (omega arith) (ok e.result e.type_inv) (e.ensures.value ∙ ap (λ k. (point_of k).east) read) in
+    let north = north_is ks l.k n.result (omega arith) (ok n.result n.type_inv) (n.ensures.value ∙ ap (λ k. (point_of k).north) read) in
     two_more (flat vs) c.args.answer.now l.answer (l.k * 2) _ _ (omega arith) (omega arith) l.invariant east north ∙ ap (partly (flat vs) c.args.answer.now) next
 
 pub returns : goal.returns

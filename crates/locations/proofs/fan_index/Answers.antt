@@ -7,7 +7,6 @@ use lib.IntN.{pos}
 use lib.Signed.{◌≤ℤ◌}
 use lib.ListN.{length}
 use Rattle.plane.specs.Points.{signed_area}
-use Rattle.plane.proofs.Lists.{index_of_all}
 use Rattle.turns.specs.Keys.{point_of}
 use Rattle.locations.specs.Search.{vertex_at, FanWedge}
 use Rattle.locations.proofs.Vertices.{turned}
@@ -35,12 +34,6 @@ loop-low-init c =
       right = c.requires.first_side;
       left = turned (vertex_at ks (length ks - 1)) (vertex_at ks 0) (point_of c.args.plug) c.requires.last_side;
     }
-
-pub signed_area-requires : goal.signed_area-requires
-signed_area-requires c =
-    let g = c.requires.keys in
-    let i = c.loop-low.invariant in
-    (index_of_all 0 g.vertices 0 (omega arith), index_of_all 0 g.vertices _ (omega (arith, i.in_range)), g.plug)
 
 pub returns : goal.returns
 returns c = narrowest c.loop-low.invariant c.loop-low-test.false

@@ -1,24 +1,13 @@
 -- `outlines::corner_outline` meets its contract: the hull of the keys of the corners is that of the corners. Assumes nothing.
 use mathlib.Core.Path.{sym, ◌∙◌}
 use native.Mathlib.Omega.{arith}
-use Rattle.std.proofs.lemmas.List.{length-take}
 use Rattle.rounds.specs.Boxes.{boxes_of, corners_of}
 use Rattle.corners.proofs.Places.{corners_length}
-use Rattle.outlines.proofs.Polygons.{front_keys, front_polygon}
+use Rattle.outlines.proofs.Polygons.{front_polygon}
 use Rattle.outlines.proofs.corner_outline.Goals as goal
-
-pub hull-requires-clause-in_bounds : goal.hull-requires-clause-in_bounds
-hull-requires-clause-in_bounds c =
-    let some = c.args.boxes.accepted.some in
-    (simp length-take (omega (arith, some, c.requires.scratch_for.in_keys)), simp length-take (omega arith), simp length-take (omega (arith, c.requires.scratch_for.in_mirror)))
-
-pub hull-requires-clause-all_keys : goal.hull-requires-clause-all_keys
-hull-requires-clause-all_keys c =
-    front_keys (corners_of c.args.corner (boxes_of c.args.boxes.numbers.now)) c.put_corner_keys.new.keys c.len-n.result
-    (corners_length c.args.corner c.args.boxes.numbers.now ∙ sym c.len-n.ensures) (omega (arith, c.requires.scratch_for.in_keys)) c.put_corner_keys.ensures
 
 pub returns : goal.returns
 returns c =
     front_polygon (corners_of c.args.corner (boxes_of c.args.boxes.numbers.now)) c.put_corner_keys.new.keys c.len-n.result
     (corners_length c.args.corner c.args.boxes.numbers.now ∙ sym c.len-n.ensures) (omega (arith, c.requires.scratch_for.in_keys)) c.put_corner_keys.ensures
-    c.hull.new.vertices c.hull.result (omega arith) c.hull.ensures
+    c.hull.new.vertices c.hull.result c.hull.ensures

@@ -7,7 +7,7 @@ use lib.IntN.{ℤ}
 use lib.ListN.{length, take, drop}
 use Rattle.std.proofs.lemmas.List.{length-take}
 use Rattle.turns.specs.Reflection.{reflected}
-use Rattle.turns.proofs.Reflection.{reflected_key, reflected_less}
+use Rattle.turns.proofs.Reflection.{reflected_less}
 use Rattle.orders.specs.Order.{get}
 use Rattle.rounds.specs.Boxes.{BoxList, boxes_of, all_corners}
 use Rattle.chains.specs.Chains.{Chain, framed}
@@ -15,7 +15,7 @@ use Rattle.halves.specs.Halves.{Appended}
 use Rattle.hulls.proofs.Made.{TwoChains}
 use Rattle.corner_lists.specs.ChainKeys.{PointEnds, ChainKeys}
 use Rattle.outlines.specs.Outlines.{PolygonKeys}
-use Rattle.outlines.proofs.Outer.{keys_of, corners_keyed, corners_many, points_polygon, front_sorted, front_amid, front_keys, outer_chains, whole_length, whole_front}
+use Rattle.outlines.proofs.Outer.{keys_of, corners_keyed, corners_many, points_polygon, front_sorted, front_amid, outer_chains, whole_length, whole_front}
 use Rattle.outlines.proofs.outer_chains.Goals as goal
 
 -- the two chains: above, of what the list up was, and below, of what the list down was
@@ -34,12 +34,13 @@ module _ (l : List ℤ) (bl : BoxList l) (first last first' last' : ℕ) (h : fi
 
   -- the lower chain is appended to the upper one, which stands in front of what was lent on
   module _ (rest after : List ℕ) (kr : ku ≤ length above) (long : length rest ≡ length (take (length above - ku) (drop ku above)))
-      (ap : Appended reflected (get (take ku above ++ (rest ++ drop (length above - ku) (drop ku above)))) (get after) (get below) (ku - 1) (kl - 1))
+      (in_below : kl - 1 ≤ length below)
+      (ap : Appended reflected (get (take ku above ++ (rest ++ drop (length above - ku) (drop ku above)))) (get after) (get (take (kl - 1) below)) (ku - 1) (length (take (kl - 1) below)))
       (room : length l / 4 + length l / 4 + length l / 4 + length l / 4 ≤ length after) where
     polygon : PolygonKeys (all_corners (boxes_of l)) after (ku - 1 + (kl - 1))
     polygon =
-        points_polygon (corners_keyed l bl) after (ku - 1 + (kl - 1)) (omega (arith, many))
-        (both.hull after (omega (arith, corners_many l bl, room))
+        points_polygon (corners_keyed l bl) after (ku - 1 + (kl - 1))
+        (both.hull after (omega (arith, corners_many l bl, room)) in_below
         (record { before = λ j o. ap.before j o ∙ whole_front ku above rest kr long j (omega (arith, hu.some)); after = ap.after }))
 
 pub upper_chain-ku-requires-clause-sorted : goal.upper_chain-ku-requires-clause-sorted
@@ -48,32 +49,17 @@ upper_chain-ku-requires-clause-sorted c =
     let room : k.result ≤ length k.new.list = omega (arith, k.ensures.few, c.requires.outer_room.in_list) in
     (front_sorted k.new.list room k.ensures, front_amid k.new.list room k.ensures)
 
-pub upper_chain-ku-requires-clause-key : goal.upper_chain-ku-requires-clause-key
-upper_chain-ku-requires-clause-key c =
-    let k = c.upper_keys-u in
-    let e = c.requires.point_ends.0 in
-    (e.first_in.key, front_keys k.new.list (omega (arith, k.ensures.few, c.requires.outer_room.in_list)) k.ensures (λ x h. h), e.last_in.key)
-
 pub upper_chain-kl-requires-clause-keys_in_bounds : goal.upper_chain-kl-requires-clause-keys_in_bounds
 upper_chain-kl-requires-clause-keys_in_bounds c = (
   simp length-take (omega (arith, c.lower_keys-v.ensures.few, c.requires.outer_room.in_keys)),
-  rw (c.reflected.ensures, c.reflected-2.ensures) (reflected_less c.requires.point_ends.0.last_in.key c.requires.point_ends.1),
+  rw (c.reflected.ensures.first, c.reflected.ensures.last) (reflected_less c.requires.point_ends.0.last_in.key c.requires.point_ends.1),
 )
 
 pub upper_chain-kl-requires-clause-sorted : goal.upper_chain-kl-requires-clause-sorted
 upper_chain-kl-requires-clause-sorted c =
     let k = c.lower_keys-v in
     let room : k.result ≤ length k.new.list = omega (arith, k.ensures.few, c.requires.outer_room.in_list) in
-    (front_sorted k.new.list room k.ensures, rw (c.reflected.ensures, c.reflected-2.ensures) (front_amid k.new.list room k.ensures))
-
-pub upper_chain-kl-requires-clause-key : goal.upper_chain-kl-requires-clause-key
-upper_chain-kl-requires-clause-key c =
-    let k = c.lower_keys-v in
-    let e = c.requires.point_ends.0 in (
-      rw c.reflected.ensures (reflected_key e.last_in.key),
-      front_keys k.new.list (omega (arith, k.ensures.few, c.requires.outer_room.in_list)) k.ensures (λ x h. reflected_key h),
-      rw c.reflected-2.ensures (reflected_key e.first_in.key),
-    )
+    (front_sorted k.new.list room k.ensures, rw (c.reflected.ensures.first, c.reflected.ensures.last) (front_amid k.new.list room k.ensures))
 
 pub append_reflected-requires : goal.append_reflected-requires
 append_reflected-requires c =
@@ -83,16 +69,10 @@ append_reflected-requires c =
     let above = c.upper_chain-ku in
     let below = c.upper_chain-kl in
     let long = whole_length above.result above.new.stack m.new.scratch (omega (arith, above.ensures.few, k.ensures.few, room.in_vertices, length-take k.result k.new.list)) m.auto.scratch in
-    let few = many c.args.boxes.numbers.now c.args.boxes.accepted c.args.ends.first c.args.ends.last _ _ c.requires.point_ends.1 c.requires.point_ends.0 k.new.list m.new.list _ _
+    let few = many c.args.boxes.numbers.now c.args.boxes.accepted c.args.ends.now.first c.args.ends.now.last _ _ c.requires.point_ends.1 c.requires.point_ends.0 k.new.list m.new.list _ _
     (omega (arith, k.ensures.few, room.in_list)) (omega (arith, m.ensures.few, room.in_list)) k.ensures m.ensures above.new.stack below.new.stack _ _ above.ensures
-    c.reflected.ensures c.reflected-2.ensures below.ensures in
-    let keys = both c.args.boxes.numbers.now c.args.boxes.accepted c.args.ends.first c.args.ends.last _ _ c.requires.point_ends.1 c.requires.point_ends.0 k.new.list m.new.list _ _
-    (omega (arith, k.ensures.few, room.in_list)) (omega (arith, m.ensures.few, room.in_list)) k.ensures m.ensures above.new.stack below.new.stack _ _ above.ensures
-    c.reflected.ensures c.reflected-2.ensures below.ensures in
-    record {
-      count_in_bounds = (omega (arith, below.ensures.few, m.ensures.few, room.in_keys, length-take m.result m.new.list), omega (arith, few, long, room.in_vertices));
-      all_keys = keys.lower;
-    }
+    c.reflected.ensures.first c.reflected.ensures.last below.ensures in
+    simp length-take (omega (arith, few, long, room.in_vertices))
 
 pub returns : goal.returns
 returns c =
@@ -102,7 +82,8 @@ returns c =
     let above = c.upper_chain-ku in
     let below = c.upper_chain-kl in
     let kr : above.result ≤ length above.new.stack = omega (arith, above.ensures.few, k.ensures.few, room.in_vertices, length-take k.result k.new.list) in
-    polygon c.args.boxes.numbers.now c.args.boxes.accepted c.args.ends.first c.args.ends.last _ _ c.requires.point_ends.1 c.requires.point_ends.0 k.new.list m.new.list _ _
+    polygon c.args.boxes.numbers.now c.args.boxes.accepted c.args.ends.now.first c.args.ends.now.last _ _ c.requires.point_ends.1 c.requires.point_ends.0 k.new.list m.new.list _ _
     (omega (arith, k.ensures.few, room.in_list)) (omega (arith, m.ensures.few, room.in_list)) k.ensures m.ensures above.new.stack below.new.stack _ _ above.ensures
-    c.reflected.ensures c.reflected-2.ensures below.ensures m.new.scratch c.append_reflected.new.vertices kr m.auto.scratch c.append_reflected.ensures
+    c.reflected.ensures.first c.reflected.ensures.last below.ensures m.new.scratch c.append_reflected.new.vertices kr m.auto.scratch
+    (omega (arith, below.ensures.few, m.ensures.few, room.in_keys, length-take m.result m.new.list)) c.append_reflected.ensures
     (omega (arith, c.append_reflected.auto.vertices, whole_length above.result above.new.stack m.new.scratch kr m.auto.scratch, room.in_vertices))

@@ -5,8 +5,6 @@ use mathlib.Core.List.{List}
 use native.Mathlib.Omega.{arith}
 use Rattle.rounds.specs.declared.Box.{Box}
 use Rattle.rounds.proofs.Rows.{boxes_length}
-use Rattle.cones.specs.Wider.{Keyed}
-use Rattle.cones.proofs.Wider.{first_key, second_key}
 use Rattle.cones.specs.declared.Cone.{Cone}
 use Rattle.passes.specs.declared.CornerSet.{CornerSet}
 use Rattle.passes.proofs.Keeping.{Stay, stay_none}
@@ -16,16 +14,6 @@ use Rattle.passes.proofs.pass_cone.Goals as goal
 known_both : {p k r : ℕ} {cone case : Cone} {set one : CornerSet} {bs : List Box} → cone ≡ case → set ≡ one → Stay p case one bs k r → Stay p cone set bs k r
 known_both {p} {k} {r} {cone} {case} {set} {one} {bs} e f o = subst (λ x. Stay p x set bs k r) (sym e) (subst (λ x. Stay p case x bs k r) (sym f) o)
 
-pub pass_corners-requires : goal.pass_corners-requires
-pass_corners-requires c =
-    let k = subst Keyed c.in-Wedge-One.is-0 c.requires.2 in
-    (c.requires.0, first_key k, second_key k, c.requires.1)
-
-pub pass_boxes-requires : goal.pass_boxes-requires
-pass_boxes-requires c =
-    let k = subst Keyed c.in-Wedge-Four.is-0 c.requires.2 in
-    (c.requires.0, first_key k, second_key k, c.requires.1)
-
 pub returns-in-Line-One : goal.returns-in-Line-One
 returns-in-Line-One c =
     let e = c.pass_line.ensures in
@@ -34,10 +22,10 @@ returns-in-Line-One c =
 
 pub returns-in_default : goal.returns-in_default
 returns-in_default c =
-    let s = stay_none c.args.plug c.args.set _ c.args.cone c.args.k (omega (arith, c.requires.0, boxes_length c.args.boxes.numbers.now)) in
+    let s = stay_none c.args.plug c.args.set _ c.args.cone.now c.args.k (omega (arith, c.requires, boxes_length c.args.boxes.numbers.now)) in
     record { keeps = s.keeps; passes = s.passes }
 
 pub returns-in_default-2 : goal.returns-in_default-2
 returns-in_default-2 c =
-    let s = stay_none c.args.plug c.args.set _ c.args.cone c.args.k (omega (arith, c.requires.0, boxes_length c.args.boxes.numbers.now)) in
+    let s = stay_none c.args.plug c.args.set _ c.args.cone.now c.args.k (omega (arith, c.requires, boxes_length c.args.boxes.numbers.now)) in
     record { keeps = s.keeps; passes = s.passes }

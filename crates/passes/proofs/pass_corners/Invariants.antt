@@ -6,4 +6,4 @@ use Rattle.passes.proofs.Keeping.{Stay}
 use Rattle.passes.proofs.pass_corners.Given as goal
 
 abbrev pub invariant-loop-i : goal.invariant-loop-i
-invariant-loop-i l = Stay l.plug (Wedge l.a l.b) (One l.corner) (boxes_of l.boxes.numbers.now) l.k l.i
+invariant-loop-i l = Stay l.plug (Wedge l.fn.a l.fn.b) (One l.corner) (boxes_of l.boxes.numbers.now) l.k l.i

@@ -7,4 +7,4 @@ use Rattle.passes.proofs.Keeping.{Stay}
 use Rattle.passes.proofs.pass_line.Given as goal
 
 abbrev pub invariant-loop-i : goal.invariant-loop-i
-invariant-loop-i l = (b : CornerKey) → Stay l.plug (Line l.a b) (One l.corner) (boxes_of l.boxes.numbers.now) l.k l.i
+invariant-loop-i l = (b : CornerKey) → Stay l.plug (Line l.fn.a b) (One l.corner) (boxes_of l.boxes.numbers.now) l.k l.i

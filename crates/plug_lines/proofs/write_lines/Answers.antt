@@ -7,8 +7,11 @@ use Rattle.plane.specs.declared.Point.{Point}
 use Rattle.rounds.specs.Boxes.{plug_at}
 use Rattle.plug_lines.specs.Steps.{LineBy}
 use Rattle.texts.proofs.Writing.{wrote_as}
-use Rattle.plug_lines.proofs.Lines.{sofar_part, sofar_more, sofar_all}
+use Rattle.plug_lines.proofs.Lines.{sofar_none, sofar_part, sofar_more, sofar_all}
 use Rattle.plug_lines.proofs.write_lines.Goals as goal
+
+pub loop-k-init : goal.loop-k-init
+loop-k-init c = sofar_none _ _ _ _ _ c.requires
 
 pub write_plug_line-done-requires : goal.write_plug_line-done-requires
 write_plug_line-done-requires c = sofar_part _ _ _ _ _ c.requires c.loop-k.invariant c.loop-k-test.true

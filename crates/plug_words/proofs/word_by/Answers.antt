@@ -3,5 +3,5 @@ use mathlib.Core.Path.{sym}
 use Rattle.rounds.proofs.Accepted.{plug_accepted}
 use Rattle.plug_words.proofs.word_by.Goals as goal
 
-pub key_of-requires : goal.key_of-requires
-key_of-requires c = plug_accepted 1 c.args.plug (sym c.in_ok-check_plug.ensures)
+pub new-requires : goal.new-requires
+new-requires c = plug_accepted 1 c.args.plug (sym c.in_ok-check_plug.ensures)

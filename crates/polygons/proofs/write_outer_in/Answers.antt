@@ -14,7 +14,7 @@ slice_bounds-write_vertices-end-2 c =
 pub write_vertices-requires : goal.write_vertices-requires
 write_vertices-requires c =
     let p = c.quartered_outline-count in
-    (p.ensures.keys, simp length-take (omega (arith, p.ensures.few, all_length c.args.boxes.numbers.now c.args.boxes.accepted.whole, c.requires.answer_room)))
+    simp length-take (omega (arith, p.ensures.few, all_length c.args.boxes.numbers.now c.args.boxes.accepted.whole, c.requires.answer_room))
 
 pub returns : goal.returns
 returns c =

@@ -10,5 +10,5 @@ pub returns : goal.returns
 returns c =
     let x = c.keep_outside-count in
     sorted_quarter x.new.out _ x.ensures
-    (sorted_first x.new.out c.sort_keys.new.keys _ x.result (omega (arith, x.ensures.few, c.requires.room))
-    (c.sort_keys.auto.keys ∙ length-take-le x.result x.new.out (omega (arith, x.ensures.few, c.requires.room))) c.sort_keys.ensures)
+    (sorted_first x.new.out c.sort_keys.new.keys _ x.result (omega (arith, x.ensures.few, c.requires.0))
+    (c.sort_keys.auto.keys ∙ length-take-le x.result x.new.out (omega (arith, x.ensures.few, c.requires.0))) c.sort_keys.ensures)

@@ -32,10 +32,10 @@ pub loop-k-preserved : goal.loop-k-preserved
 loop-k-preserved c =
     let limit = c.side_of-limit in
     let side = c.side_of in
-    let w = c.line_through-line.ensures in
+    let w = c.line_through-line.ensures.value in
     more (omega arith) c.loop-k.invariant
     (subst (λ q. signed_area (point_of c.args.a) (point_of c.args.b) q <ℤ signed_area (point_of c.args.a) (point_of c.args.b) (point_of c.args.plug)) c.corner_key-key.ensures.is
-    (lt_plain (returned w64 side.type_inv (side.ensures.area c.args.a c.args.b w)) (returned w64 limit.type_inv (limit.ensures.area c.args.a c.args.b w)) (le_z_false c.if-limit-side_of.false)))
+    (lt_plain (returned w64 side.type_inv (side.ensures.value.area c.args.a c.args.b w)) (returned w64 limit.type_inv (limit.ensures.value.area c.args.a c.args.b w)) (le_z_false c.if-limit-side_of.false)))
 
 pub returns : goal.returns
 returns c =

@@ -17,4 +17,4 @@ pub record Beyond (l : List ℤ) (f t p : Point) (corner : Corner) (k : ℕ) : T
   pub right : (i : ℕ) → i < k → signed_area f t (nth_corner corner (boxes_of l) i) <ℤ signed_area f t p
 
 abbrev pub invariant-loop-k : goal.invariant-loop-k
-invariant-loop-k l = Beyond l.boxes.numbers.now (point_of l.a) (point_of l.b) (point_of l.plug) l.corner l.k
+invariant-loop-k l = Beyond l.boxes.numbers.now (point_of l.fn.a) (point_of l.fn.b) (point_of l.fn.plug) l.corner l.k

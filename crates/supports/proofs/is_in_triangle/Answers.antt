@@ -44,13 +44,13 @@ all_three true false v e = absurd (true≢false (sym e))
 all_three false u v e = absurd (true≢false (sym e))
 
 pub corner_key-u-requires : goal.corner_key-u-requires
-corner_key-u-requires c = place c.before c.requires.named.0
+corner_key-u-requires c = place c.before c.requires.0
 
 pub corner_key-v-requires : goal.corner_key-v-requires
-corner_key-v-requires c = place c.before.before.before c.requires.named.1
+corner_key-v-requires c = place c.before.before.before c.requires.1
 
 pub corner_key-w-requires : goal.corner_key-w-requires
-corner_key-w-requires c = place c.before.before.before.before.before c.requires.named.2
+corner_key-w-requires c = place c.before.before.before.before.before c.requires.2
 
 pub returns : goal.returns
 returns c =
@@ -67,5 +67,5 @@ returns c =
           let t = all_three _ _ _ e in
           winding_within p u (w ∷ v ∷ []) _
           (cycle_neg_back p u w (lt_z_true (sym c.turns_left-3.ensures ∙ t.2)), (cycle_neg_back p w v (lt_z_true (sym c.turns_left-2.ensures ∙ t.1)), cycle_neg_back p v u (lt_z_true (sym c.turns_left.ensures ∙ t.0))))
-          (listed s c.requires.named.0 u ku.ensures.is & listed s c.requires.named.2 w kw.ensures.is & listed s c.requires.named.1 v kv.ensures.is & none);
+          (listed s c.requires.0 u ku.ensures.is & listed s c.requires.2 w kw.ensures.is & listed s c.requires.1 v kv.ensures.is & none);
     }

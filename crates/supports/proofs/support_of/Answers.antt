@@ -7,15 +7,13 @@ use Prim.Native.Nat.{ℕ, suc, ◌+◌, ◌<◌}
 use native.Mathlib.Omega.{arith}
 use lib.ListN.{get_or, drop, drop_of_length-le}
 use lib.Seq.{drop-cons}
-use Rattle.turns.specs.Keys.{point_of}
-use Rattle.rounds.specs.Boxes.{boxes_of, corners_of}
+use Rattle.rounds.specs.Boxes.{boxes_of}
 use Rattle.rounds.specs.declared.Box.{Box}
 use Rattle.rounds.specs.declared.Corner.{Corner}
 use Rattle.rounds.specs.declared.Direction.{Direction}
-use Rattle.rounds.specs.declared.Corner.TheVariants.{SouthWest, SouthEast, NorthEast, NorthWest}
-use Rattle.cones.proofs.Wider.{says_keyed}
+use Rattle.rounds.specs.declared.Corner.TheVariants.{SouthEast, NorthEast, NorthWest}
 use Rattle.supports.specs.Supporting.{support_of_corner}
-use Rattle.supports.proofs.Answering.{first_support, support_found}
+use Rattle.supports.proofs.Answering.{first_support, none_says}
 use Rattle.supports.proofs.support_of.Goals as goal
 
 or-none : (o : Option Direction) → o ≡ option_or o None
@@ -35,11 +33,6 @@ step plug bs i d {r} h e =
     ∙ ap (λ o. option_or o (first_support plug bs (drop (suc i) others))) (sym e)
     ∙ ap (λ k. option_or r (first_support plug bs (drop k others))) n
 
-pub support_by-requires : goal.support_by-requires
-support_by-requires c =
-    let bs = boxes_of c.args.boxes.numbers.now in
-    (c.requires.key, says_keyed bs (corners_of SouthWest bs) (point_of c.args.plug) c.args.view.cone c.requires.corner_view_says.of_cone)
-
 pub loop-corner-preserved : goal.loop-corner-preserved
 loop-corner-preserved c =
     c.loop-corner.invariant ∙ step c.args.plug (boxes_of c.args.boxes.numbers.now) c.loop-corner.corner-index _ c.loop-corner-test.true c.in_default-support_at.ensures.exact
@@ -48,4 +41,4 @@ pub returns : goal.returns
 returns c =
     let bs = boxes_of c.args.boxes.numbers.now in
     let e = sym (c.loop-corner.invariant ∙ ap (first_support c.args.plug bs) (drop_of_length-le others {i = c.loop-corner.corner-index} (omega arith))) in
-    record { exact = e; supports = support_found c.args.plug c.requires.key bs c.args.boxes.accepted.in_span c.args.view c.requires.corner_view_says e }
+    record { exact = e; supports = none_says c.args.plug bs c.args.boxes.accepted.in_span c.args.view.now c.requires e }

@@ -13,34 +13,34 @@ returns-then-file-gt-MOST_INPUT c = (text_long _ c.if-file-gt-MOST_INPUT.true, r
 
 pub returns-in_err-counts : goal.returns-in_err-counts
 returns-in_err-counts c =
-    refused_by _ _ c.from_residual.result _ c.from_residual.ensures.1 (text_refused _ (omega (arith, c.if-file-gt-MOST_INPUT.false)) _ (faulty _ c.in_err-counts.ensures))
+    refused_by _ _ c.from_residual.result _ c.from_residual.ensures.1 (text_refused _ (omega arith) _ (faulty _ c.in_err-counts.ensures))
 
 pub returns-then-counts-gt-MOST_BOXES : goal.returns-then-counts-gt-MOST_BOXES
 returns-then-counts-gt-MOST_BOXES c =
-    (crowded _ (omega (arith, c.if-file-gt-MOST_INPUT.false)) (well_formed _ c.in_ok-counts.ensures) c.if-counts-gt-MOST_BOXES.true, refl)
+    (crowded _ (omega arith) (well_formed _ c.in_ok-counts.ensures) c.if-counts-gt-MOST_BOXES.true, refl)
 
 pub read_boxes-at-requires : goal.read_boxes-at-requires
 read_boxes-at-requires c =
-    boxes_room _ (omega (arith, c.if-file-gt-MOST_INPUT.false)) (well_formed _ c.in_ok-counts.ensures) (omega (arith, c.if-counts-gt-MOST_BOXES.false))
+    boxes_room _ (omega arith) (well_formed _ c.in_ok-counts.ensures) (omega arith)
 
 pub returns-in_err-boxes : goal.returns-in_err-boxes
 returns-in_err-boxes c =
-    let short : length c.args.file.now ≤ most_input = omega (arith, c.if-file-gt-MOST_INPUT.false) in
+    let short : length c.args.file.now ≤ most_input = omega arith in
     refused_by _ _ c.from_residual-in_err-boxes.result _ c.from_residual-in_err-boxes.ensures.1
     (boxes_refused _ short (well_formed _ c.in_ok-counts.ensures) c.read_boxes-at.ensures _ (sym c.in_err-boxes.ensures.fault))
 
 pub write_counts-requires : goal.write_counts-requires
 write_counts-requires c =
-    let short : length c.args.file.now ≤ most_input = omega (arith, c.if-file-gt-MOST_INPUT.false) in
+    let short : length c.args.file.now ≤ most_input = omega arith in
     let few = few_plugs _ short (well_formed _ c.in_ok-counts.ensures) c.read_boxes-at.ensures (sym c.in_ok-boxes.ensures.fault) in
-    (omega (arith, c.if-counts-gt-MOST_BOXES.false), omega (arith, few), omega (arith, c.requires.for_line))
+    (omega arith, omega (arith, few), omega (arith, c.requires.for_line))
 
 pub of_plugs-requires : goal.of_plugs-requires
 of_plugs-requires c =
-    let short : length c.args.file.now ≤ most_input = omega (arith, c.if-file-gt-MOST_INPUT.false) in
+    let short : length c.args.file.now ≤ most_input = omega arith in
     waiting_first _ short (well_formed _ c.in_ok-counts.ensures) c.read_boxes-at.ensures (sym c.in_ok-boxes.ensures.fault) c.make_shapes-shapes.ensures c.in_ok-boxes.ensures.same
 
 pub returns : goal.returns
 returns c =
-    let short : length c.args.file.now ≤ most_input = omega (arith, c.if-file-gt-MOST_INPUT.false) in
-    opened _ short (well_formed _ c.in_ok-counts.ensures) c.read_boxes-at.ensures (sym c.in_ok-boxes.ensures.fault) (omega (arith, c.if-counts-gt-MOST_BOXES.false)) c.write_counts.ensures c.of_plugs.ensures
+    let short : length c.args.file.now ≤ most_input = omega arith in
+    opened _ short (well_formed _ c.in_ok-counts.ensures) c.read_boxes-at.ensures (sym c.in_ok-boxes.ensures.fault) (omega arith) c.write_counts.ensures c.of_plugs.ensures

@@ -16,16 +16,16 @@ module _ (c : After-north_between-cn) where
   start = c.before.before.before.before
 
   be : Got w32 32000 (to_z w32 (of_z w32 c.before.before.before.east_between-be.result)) ((point_of start.args.b).east -ℤ (point_of start.args.a).east)
-  be = small tt c.before.before.before.east_between-be.ensures (easts_upto start.requires.0 start.requires.1)
+  be = small tt c.before.before.before.east_between-be.ensures.value (easts_upto c.before.before.before.east_between-be.ensures.keys.0 c.before.before.before.east_between-be.ensures.keys.1)
 
   bn : Got w32 32000 (to_z w32 (of_z w32 c.before.before.north_between-bn.result)) ((point_of start.args.b).north -ℤ (point_of start.args.a).north)
-  bn = small tt c.before.before.north_between-bn.ensures (norths_upto start.requires.0 start.requires.1)
+  bn = small tt c.before.before.north_between-bn.ensures.value (norths_upto c.before.before.north_between-bn.ensures.keys.0 c.before.before.north_between-bn.ensures.keys.1)
 
   ce : Got w32 32000 (to_z w32 (of_z w32 c.before.east_between-ce.result)) ((point_of start.args.c).east -ℤ (point_of start.args.a).east)
-  ce = small tt c.before.east_between-ce.ensures (easts_upto start.requires.0 start.requires.2)
+  ce = small tt c.before.east_between-ce.ensures.value (easts_upto c.before.east_between-ce.ensures.keys.0 c.before.east_between-ce.ensures.keys.1)
 
   cn : Got w32 32000 (to_z w32 (of_z w32 c.north_between-cn.result)) ((point_of start.args.c).north -ℤ (point_of start.args.a).north)
-  cn = small tt c.north_between-cn.ensures (norths_upto start.requires.0 start.requires.2)
+  cn = small tt c.north_between-cn.ensures.value (norths_upto c.north_between-cn.ensures.keys.0 c.north_between-cn.ensures.keys.1)
 
 pub overflow_mul-result : goal.overflow_mul-result
 overflow_mul-result c = ask_mul (be c) (ce c) tt
@@ -37,4 +37,8 @@ pub overflow_add-result : goal.overflow_add-result
 overflow_add-result c = ask_add (got_mul (be c) (ce c) tt) (got_mul (bn c) (cn c) tt) tt
 
 pub returns : goal.returns
-returns c = (got_add (got_mul (be c) (ce c) tt) (got_mul (bn c) (cn c) tt) tt).eq
+returns c =
+    record {
+      value = (got_add (got_mul (be c) (ce c) tt) (got_mul (bn c) (cn c) tt) tt).eq;
+      keys = (c.north_between-cn.ensures.keys.0, c.before.before.north_between-bn.ensures.keys.1, c.north_between-cn.ensures.keys.1);
+    }

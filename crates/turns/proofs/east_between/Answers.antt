@@ -7,15 +7,15 @@ use Rattle.turns.proofs.Coordinates.{key_in_span}
 use Rattle.turns.proofs.Bounds.{small}
 use Rattle.turns.proofs.east_between.Goals as goal
 
-module _ (c : goal.After-east_of-2) where
-  of-b : Got w32 16000 (to_z w32 (of_z w32 c.before.east_of.result)) (point_of c.before.before.args.b).east
-  of-b = small tt c.before.east_of.ensures (key_in_span c.before.before.requires.1).easts
+module _ (c : goal.After-east-2) where
+  of-b : Got w32 16000 (to_z w32 (of_z w32 c.before.east.result)) (point_of c.before.before.args.b).east
+  of-b = small tt c.before.east.ensures.value (key_in_span c.before.east.ensures.key).easts
 
-  of-a : Got w32 16000 (to_z w32 (of_z w32 c.east_of-2.result)) (point_of c.before.before.args.a).east
-  of-a = small tt c.east_of-2.ensures (key_in_span c.before.before.requires.0).easts
+  of-a : Got w32 16000 (to_z w32 (of_z w32 c.east-2.result)) (point_of c.before.before.args.a).east
+  of-a = small tt c.east-2.ensures.value (key_in_span c.east-2.ensures.key).easts
 
 pub overflow_sub-result : goal.overflow_sub-result
 overflow_sub-result c = ask_sub (of-b c) (of-a c) tt
 
 pub returns : goal.returns
-returns c = (got_sub (of-b c) (of-a c) tt).eq
+returns c = record { value = (got_sub (of-b c) (of-a c) tt).eq; keys = (c.east-2.ensures.key, c.before.east.ensures.key) }

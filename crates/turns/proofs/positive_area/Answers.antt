@@ -11,12 +11,12 @@ use Rattle.turns.proofs.positive_area.Goals.{After-signed_area}
 
 -- the signed area, as the machine reads it back
 is : (c : After-signed_area) → to_z w64 (of_z w64 c.signed_area.result) ≡ signed_area (point_of c.before.args.a) (point_of c.before.args.b) (point_of c.before.args.c)
-is c = returned w64 c.signed_area.type_inv c.signed_area.ensures
+is c = returned w64 c.signed_area.type_inv c.signed_area.ensures.value
 
 pub overflow_cast-result : goal.overflow_cast-result
 overflow_cast-result c =
-    let k = c.before.requires.key in
-    unsigned_fits (is c) c.before.requires.pos_bound (area_upto (key_in_span k.0) (key_in_span k.1) (key_in_span k.2)).high
+    let k = c.signed_area.ensures.keys in
+    unsigned_fits (is c) c.before.requires (area_upto (key_in_span k.0) (key_in_span k.1) (key_in_span k.2)).high
 
 pub returns : goal.returns
-returns c = unsigned_is (is c) c.before.requires.pos_bound
+returns c = unsigned_is (is c) c.before.requires

@@ -11,12 +11,12 @@ use Rattle.turns.proofs.positive_dot_product.Goals.{After-dot_product}
 
 -- the dot product, as the machine reads it back
 is : (c : After-dot_product) → to_z w32 (of_z w32 c.dot_product.result) ≡ dot_product (point_of c.before.args.a) (point_of c.before.args.b) (point_of c.before.args.c)
-is c = returned w32 c.dot_product.type_inv c.dot_product.ensures
+is c = returned w32 c.dot_product.type_inv c.dot_product.ensures.value
 
 pub overflow_cast-result : goal.overflow_cast-result
 overflow_cast-result c =
-    let k = c.before.requires.key in
-    unsigned_fits (is c) c.before.requires.pos_bound (dot_product_upto (key_in_span k.0) (key_in_span k.1) (key_in_span k.2)).high
+    let k = c.dot_product.ensures.keys in
+    unsigned_fits (is c) c.before.requires (dot_product_upto (key_in_span k.0) (key_in_span k.1) (key_in_span k.2)).high
 
 pub returns : goal.returns
-returns c = unsigned_is (is c) c.before.requires.pos_bound
+returns c = unsigned_is (is c) c.before.requires

@@ -8,4 +8,4 @@ use Rattle.turns.proofs.turns_left.Goals as goal
 
 pub returns : goal.returns
 returns c =
-    ltz {w = w64} (lit (pos 0) tt) (ok c.signed_area.result c.signed_area.type_inv) ∙ ap (λ (z : ℤ). lt_z (pos 0) z) c.signed_area.ensures
+    ltz {w = w64} (lit (pos 0) tt) (ok c.signed_area.result c.signed_area.type_inv) ∙ ap (λ (z : ℤ). lt_z (pos 0) z) c.signed_area.ensures.value

@@ -8,4 +8,4 @@ use Rattle.turns.proofs.turns_right.Goals as goal
 
 pub returns : goal.returns
 returns c =
-    ltz {w = w64} (ok c.signed_area.result c.signed_area.type_inv) (lit (pos 0) tt) ∙ ap (λ (z : ℤ). lt_z z (pos 0)) c.signed_area.ensures
+    ltz {w = w64} (ok c.signed_area.result c.signed_area.type_inv) (lit (pos 0) tt) ∙ ap (λ (z : ℤ). lt_z z (pos 0)) c.signed_area.ensures.value

@@ -1,26 +1,21 @@
 -- `views::look_over` meets its contract. The invariant: what is found of all boxes from the start is what is found from the present view on, from corner j of the box at
 -- place k. Assumes nothing.
 use Rattle.std.specs.Prelude.{Option}
-use mathlib.Core.Path.{◌≡◌, sym, ◌∙◌, ap, ap₂, subst}
+use mathlib.Core.Path.{◌≡◌, sym, ◌∙◌, ap, ap₂}
 use mathlib.Core.Bool.{cond}
 use mathlib.Core.List.{List}
 use Prim.Native.Nat.{ℕ, suc, ◌+◌, ◌≤◌, ◌<◌}
 use native.Mathlib.Omega.{arith}
 use lib.ListN.{length, drop}
-use Rattle.plane.specs.Members.{All}
-use Rattle.plane.proofs.Lists.{index_of_all}
-use Rattle.turns.specs.Keys.{Key}
-use Rattle.rounds.specs.Boxes.{boxes_of, BoxInSpan}
+use Rattle.rounds.specs.Boxes.{boxes_of}
 use Rattle.rounds.specs.declared.Box.{Box}
 use Rattle.rounds.proofs.Rows.{boxes_length}
-use Rattle.cones.specs.Wider.{numbered, Keyed, is_around, cone_with}
+use Rattle.cones.specs.Wider.{numbered, is_around, cone_with}
 use Rattle.cones.specs.declared.Cone.{Cone}
 use Rattle.cones.specs.declared.CornerKey.{CornerKey}
-use Rattle.cones.proofs.Wider.{keyed_with}
 use Rattle.passes.specs.Passes.{nth_box, names_in}
 use Rattle.passes.specs.declared.CornerSet.{CornerSet}
 use Rattle.passes.specs.declared.CornerSet.TheVariants.{One, Four}
-use Rattle.passes.proofs.Keeping.{numbered_key}
 use Rattle.views.specs.Views.{nth_name}
 use Rattle.views.specs.Looking.{met_with, view_with, looked_over}
 use Rattle.views.specs.declared.View.{View}
@@ -31,9 +26,6 @@ use Rattle.views.proofs.look_over.Goals as goal
 few-names : (set : CornerSet) → (0 < length (names_in set)) × (length (names_in set) ≤ 4)
 few-names (One c) = (omega arith, omega arith)
 few-names Four = (omega arith, omega arith)
-
-has_key : (set : CornerSet) (bs : List Box) (k j : ℕ) {v : CornerKey} → All BoxInSpan bs → k < length bs → v ≡ numbered (suc k) (nth_box bs k) (nth_name set j) → Key v.key
-has_key set bs k j all n e = subst (λ (x : CornerKey). Key x.key) (sym e) (numbered_key (suc k) (nth_box bs k) (index_of_all _ all k n) (nth_name set j))
 
 -- a step: the corner at j of the box at k, added to what is seen
 module _ (plug : ℕ) (set : CornerSet) (bs : List Box) (start : View) (cone : Cone) (met : Option CornerKey) (k j : ℕ) where
@@ -79,7 +71,6 @@ loop-k-init c =
     record {
       in_range = omega (arith, e.upto, boxes_length c.args.boxes.numbers.now);
       place = (few-names c.args.set).0;
-      keyed = c.requires.1;
       same =
           passes_on c.args.plug c.args.set bs c.args.start 0 c.pass_cone-k.result e
           ∙ sym (rest_all c.args.plug c.args.set (suc c.pass_cone-k.result) c.args.start (drop c.pass_cone-k.result bs));
@@ -101,17 +92,6 @@ returns-in-Around c =
     ∙ ap (λ b. cond b w (further c.args.plug c.args.set bs c.args.start c.loop-k.cone c.loop-k.met c.loop-k.k c.loop-k.j w)) (ap is_around c.in-Around.is)) in
     record { exact = e; looks_over = looks_found c.args.plug bs c.args.boxes.accepted.in_span c.args.set c.args.start e }
 
-pub pass_cone-k-requires-then-j-each : goal.pass_cone-k-requires-then-j-each
-pass_cone-k-requires-then-j-each c =
-    let bs = boxes_of c.args.boxes.numbers.now in
-    let x = c.nth_corner-v.ensures.exact ∙ ap (numbered (suc c.loop-k.k) (nth_box bs c.loop-k.k)) c.nth_name-corner.ensures in (
-      omega (arith, boxes_length c.args.boxes.numbers.now),
-      c.requires.0,
-      subst Keyed (sym c.widen-cone.ensures.exact)
-          (keyed_with c.args.plug c.nth_corner-v.result
-          (has_key c.args.set bs c.loop-k.k c.loop-k.j c.args.boxes.accepted.in_span (omega (arith, boxes_length c.args.boxes.numbers.now)) x) c.loop-k.cone c.loop-k.invariant.keyed),
-    )
-
 pub loop-k-preserved-then-j-each : goal.loop-k-preserved-then-j-each
 loop-k-preserved-then-j-each c =
     let bs = boxes_of c.args.boxes.numbers.now in
@@ -122,9 +102,6 @@ loop-k-preserved-then-j-each c =
     record {
       in_range = omega (arith, e.upto, boxes_length c.args.boxes.numbers.now);
       place = (few-names c.args.set).0;
-      keyed = subst Keyed (sym c.widen-cone.ensures.exact)
-          (keyed_with c.args.plug c.nth_corner-v.result
-          (has_key c.args.set bs c.loop-k.k c.loop-k.j c.args.boxes.accepted.in_span (omega (arith, boxes_length c.args.boxes.numbers.now)) x) c.loop-k.cone c.loop-k.invariant.keyed);
       same =
           whole c.args.plug c.args.set bs c.args.start c.loop-k.cone c.loop-k.met c.loop-k.k c.loop-k.j
           (record {
@@ -137,27 +114,6 @@ loop-k-preserved-then-j-each c =
           ∙ ap (λ b. cond b w (further c.args.plug c.args.set bs c.args.start c.loop-k.cone c.loop-k.met c.loop-k.k c.loop-k.j (seen c.widen-cone.result c.meet-met.result))) (not_around c.widen-cone.result c.in_default.not-Around)
           ∙ passes_on c.args.plug c.args.set bs w (c.loop-k.k + 1) r e
           ∙ sym (rest_all c.args.plug c.args.set (suc r) w (drop r bs));
-    }
-
-pub loop-k-preserved : goal.loop-k-preserved
-loop-k-preserved c =
-    let bs = boxes_of c.args.boxes.numbers.now in
-    let x = c.nth_corner-v.ensures.exact ∙ ap (numbered (suc c.loop-k.k) (nth_box bs c.loop-k.k)) c.nth_name-corner.ensures in
-    let i = c.loop-k.invariant in
-    let e = c.corner_count-each.ensures in
-    record {
-      in_range = i.in_range;
-      place = omega (arith, i.place, c.if-j-each.false);
-      keyed = subst Keyed (sym c.widen-cone.ensures.exact)
-          (keyed_with c.args.plug c.nth_corner-v.result
-          (has_key c.args.set bs c.loop-k.k c.loop-k.j c.args.boxes.accepted.in_span (omega (arith, boxes_length c.args.boxes.numbers.now)) x) c.loop-k.cone c.loop-k.invariant.keyed);
-      same = next c.args.plug c.args.set bs c.args.start c.loop-k.cone c.loop-k.met c.loop-k.k c.loop-k.j
-          (record {
-            in_list = (omega (arith, boxes_length c.args.boxes.numbers.now));
-            place = c.loop-k.invariant.place;
-            same = c.loop-k.invariant.same;
-          })
-          (record { is_corner = x; is_wider = c.widen-cone.ensures.exact; is_met = c.meet-met.ensures.exact });
     }
 
 pub returns : goal.returns

@@ -6,7 +6,6 @@ use Prim.Native.Nat.{ℕ, suc, ◌*◌, ◌/◌, ◌-◌, ◌≤◌, ◌<◌}
 use lib.IntN.{ℤ}
 use lib.ListN.{length, drop}
 use Rattle.rounds.specs.Boxes.{boxes_of}
-use Rattle.cones.specs.Wider.{Keyed}
 use Rattle.passes.specs.Passes.{names_in}
 use Rattle.passes.specs.declared.CornerSet.{CornerSet}
 use Rattle.views.specs.Looking.{looked_over}
@@ -18,7 +17,6 @@ use Rattle.views.proofs.look_over.Given as goal
 pub record Reached (boxes : List ℤ) (set : CornerSet) (plug : ℕ) (start view : View) (k j : ℕ) : Type 0 where
   pub in_range : k ≤ length boxes / 4
   pub place : j < length (names_in set)
-  pub keyed : Keyed view.cone
   pub same : looked_over plug set 1 start (boxes_of boxes) ≡ rest plug set (suc k) j view (drop k (boxes_of boxes))
 
 abbrev pub invariant-loop-k : goal.invariant-loop-k

@@ -1,14 +1,10 @@
 -- `views::view_of` meets its contract: the pass starts with no point seen. Assumes nothing.
 use mathlib.Core.Path.{sym, subst}
-use Rattle.plane.specs.Members.{none}
 use Rattle.turns.specs.Keys.{point_of}
 use Rattle.rounds.specs.Boxes.{boxes_of}
 use Rattle.views.specs.Views.{CornerViewSays}
 use Rattle.views.proofs.Viewing.{view_says}
 use Rattle.views.proofs.view_of.Goals as goal
-
-pub look_over-requires : goal.look_over-requires
-look_over-requires c = (c.requires, none)
 
 pub returns : goal.returns
 returns c =

@@ -1,23 +1,25 @@
--- `words::word_by_corners` meets its contract: each return by what the corner polygons on the way say (proofs/Deciding.antt). Assumes nothing.
-use Rattle.std.proofs.Common.{true, arith}
+-- `words::word_by_corners` meets its contract: by what the corner polygons that are tried say (proofs/Deciding.antt, Tried.antt). Assumes nothing.
+use lib.ListN.{get_or}
+use Rattle.std.proofs.Common.{rules, true, false}
+use Rattle.std.proofs.lemmas.Iterator.{cases_from_all, YieldsList-from_slice}
 use Rattle.rounds.specs.declared.Corner.{Corner}
+use Rattle.rounds.specs.declared.Corner.TheVariants.{SouthWest}
 use Rattle.outlines.specs.RoundPolygons.{corner_vertices}
 use Rattle.words.specs.Words.{WithinOf}
-use Rattle.words.proofs.Deciding.{part_keys, within_of, word_inside, word_undecided}
-use Rattle.words.proofs.Tried.{place_few, one_more}
+use Rattle.words.proofs.Deciding.{word_inside, word_undecided}
+use Rattle.words.proofs.Tried.{all, each}
 use Rattle.words.proofs.word_by_corners.Goals as goal
 
-pub is_within-requires : goal.is_within-requires
-is_within-requires c = part_keys c.of_corner.ensures (c.args.polygons.keys.corners _) c.requires.key
+pub returns-then-inside : goal.returns-then-inside
+returns-then-inside c =
+    let Yes : Corner → Type 0 = λ k. WithinOf (corner_vertices c.args.polygons.counts k c.args.polygons.vertices.now) c.args.plug true in
+    let No : Corner → Type 0 = λ k. WithinOf (corner_vertices c.args.polygons.counts k c.args.polygons.vertices.now) c.args.plug false in
+    word_inside _ _ _
+    (each Yes (rw c.if-inside.true at (cases_from_all _ _ _ Yes No c.all-inside.ensures.ran (YieldsList-from_slice all c.iter.ensures.rest) (λ x q k. search rules) (λ x q k. search rules))))
 
-pub returns-then-not-is_within : goal.returns-then-not-is_within
-returns-then-not-is_within c =
-    word_undecided _ _ _ c.requires.place_of _ (within_of c.of_corner.ensures c.if-not-is_within.true c.is_within.ensures)
-
-pub loop-corner-preserved : goal.loop-corner-preserved
-loop-corner-preserved c =
-    let Tried : Corner → Type 0 = λ k. WithinOf (corner_vertices c.args.polygons.counts k c.args.polygons.vertices.now) c.args.plug true in
-    one_more Tried c.loop-corner.corner-index (within_of c.of_corner.ensures c.if-not-is_within.false c.is_within.ensures) c.loop-corner.invariant
-
-pub returns : goal.returns
-returns c = word_inside _ _ _ (λ k. c.loop-corner.invariant k (omega (arith, place_few k, c.loop-corner-test.false)))
+pub returns-else-inside : goal.returns-else-inside
+returns-else-inside c =
+    let Yes : Corner → Type 0 = λ k. WithinOf (corner_vertices c.args.polygons.counts k c.args.polygons.vertices.now) c.args.plug true in
+    let No : Corner → Type 0 = λ k. WithinOf (corner_vertices c.args.polygons.counts k c.args.polygons.vertices.now) c.args.plug false in
+    let one = rw c.if-inside.false at (cases_from_all _ _ _ Yes No c.all-inside.ensures.ran (YieldsList-from_slice all c.iter.ensures.rest) (λ x q k. search rules) (λ x q k. search rules)) in
+    word_undecided _ _ _ c.requires (get_or all one.0 SouthWest) (one.2 SouthWest)

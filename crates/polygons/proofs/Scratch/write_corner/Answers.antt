@@ -1,13 +1,7 @@
 -- `polygons::Scratch::write_corner` meets its contract: the points of the polygon's keys are its vertices. Assumes nothing.
 use native.Mathlib.Omega.{arith}
-use Rattle.std.proofs.lemmas.List.{length-take}
 use Rattle.polygons.proofs.Behind.{few, written}
 use Rattle.polygons.proofs.Scratch.write_corner.Goals as goal
-
-pub write_vertices-requires : goal.write_vertices-requires
-write_vertices-requires g c =
-    let p = c.corner_outline-count in
-    (p.ensures.keys, simp length-take (omega (arith, few _ c.args.boxes.numbers.now p.ensures.few, c.requires.answer_room)))
 
 pub returns : goal.returns
 returns g c =
