@@ -42,8 +42,10 @@ impl Way {
         ensures outside { result ≡ true → Outside self.now.from self.now.to key }
         ensures not_outside { result ≡ false → Outside self.now.from self.now.to key → ⊥ }
     {
-        let is_left = 0 < lines::side_of(self.line, key);
-        is_left && self.from < key && key < self.to
+        if lines::side_of(self.line, key) <= 0 {
+            return false;
+        }
+        self.from < key && key < self.to
     }
 }
 
@@ -76,9 +78,11 @@ fn keep_outside(keys: &[Key], way: Way, out: &mut [Key]) -> usize
     requires { length keys.now ≤ length out.old }
     ensures { Quarter keys.now way.from way.to out.new result }
 {
+    // A copy of its own, which the loop keeps in registers.
+    let own = way;
     let mut count: usize = 0;
     for &key in keys {
-        if way.is_outside(key) {
+        if own.is_outside(key) {
             out[count] = key;
             count += 1;
         }
@@ -86,7 +90,8 @@ fn keep_outside(keys: &[Key], way: Way, out: &mut [Key]) -> usize
     count
 }
 
-// The same in order. What scratch holds is lost.
+// The same in order. What scratch holds is lost. A call of its own for each half: inlined, the loop spills registers.
+#[inline(never)]
 fn sort_outside(keys: &[Key], way: Way, out: &mut [Key], scratch: &mut [Key]) -> usize
     requires { (length keys.now ≤ length out.old) × (length keys.now ≤ length scratch.old) }
     ensures { SortedQuarter keys.now way.from way.to out.new result }

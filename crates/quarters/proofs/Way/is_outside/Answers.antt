@@ -1,14 +1,13 @@
 -- `quarters::Way::is_outside` meets its contract. Assumes nothing.
 use mathlib.Core.Path.{◌≡◌, refl, sym, ◌∙◌}
-use mathlib.Core.Bool.{true, false≢true}
+use mathlib.Core.Bool.{true}
 use Prim.Native.Nat.{ℕ, ◌<◌}
 use lib.IntN.{pos}
 use lib.Signed.{◌≤ℤ◌, ◌<ℤ◌}
 use Rattle.std.specs.Ordering.{is_lt, nat_cmp}
 use Rattle.std.proofs.Common.{arith}
-use Rattle.std.proofs.lemmas.Map.Keys.{ge_from_not_lt}
 use mir.Syntax.{w64}
-use Rattle.integers.proofs.Machine.{lt_z_true, lt_z_false, lt_plain, le_plain}
+use Rattle.integers.proofs.Machine.{le_z_true, le_z_false, lt_plain, le_plain}
 use Rattle.std.proofs.lemmas.Int.{ints}
 use Rattle.plane.specs.Points.{signed_area}
 use Rattle.turns.specs.Keys.{point_of}
@@ -16,7 +15,6 @@ use Rattle.turns.proofs.Bounds.{returned}
 use Rattle.chains.specs.Chains.{turn}
 use Rattle.quarters.specs.Quarters.{Outside}
 use Rattle.quarters.proofs.Way.is_outside.Goals as goal
-use Rattle.quarters.proofs.Way.is_outside.Goals.{then-is_left, else-is_left}
 
 -- not left of the line
 not_left : {from to k : ℕ} → signed_area (point_of from) (point_of to) (point_of k) ≤ℤ pos 0 → Outside from to k → ⊥
@@ -32,25 +30,19 @@ is_left from to k h = h
 less : (a b : ℕ) → is_lt (nat_cmp a b) ≡ true → a < b
 less a b h = grind arith
 
+pub returns-then-side_of-le0-clause-not_outside : goal.returns-then-side_of-le0-clause-not_outside
+returns-then-side_of-le0-clause-not_outside c =
+    let w = c.args.self.now in
+    let area = returned w64 c.side_of.type_inv (c.side_of.ensures.value.area w.from w.to w.between_keys.2) in
+    λ e o. not_left (le_plain area refl (le_z_true c.if-side_of-le0.true)) o
+
 pub returns-then-lt-clause-outside : goal.returns-then-lt-clause-outside
 returns-then-lt-clause-outside c =
     let w = c.args.self.now in
-    let area = returned w64 c.side_of-is_left.type_inv (c.side_of-is_left.ensures.value.area w.from w.to w.between_keys.2) in
-    λ e. elim c.if-is_left.branch [
-      | then-is_left v ↦
-          record {
-            after = less w.from c.args.key (sym v.lt.ensures ∙ sym v.value-is ∙ c.if-lt.true);
-            before = less c.args.key w.to (sym c.lt-then-lt.ensures ∙ e);
-            left = is_left _ _ _ (lt_plain refl area (lt_z_true v.if-is_left.true));
-          }
-      | else-is_left v ↦ absurd (false≢true (sym v.if-is_left.false ∙ sym v.value-is ∙ c.if-lt.true))
-    ]
-
-pub returns-else-lt-clause-not_outside : goal.returns-else-lt-clause-not_outside
-returns-else-lt-clause-not_outside c =
-    let w = c.args.self.now in
-    let area = returned w64 c.side_of-is_left.type_inv (c.side_of-is_left.ensures.value.area w.from w.to w.between_keys.2) in
-    λ e o. elim c.if-is_left.branch [
-      | then-is_left v ↦ omega (arith, ge_from_not_lt w.from c.args.key (sym v.lt.ensures ∙ sym v.value-is ∙ e), o.after)
-      | else-is_left v ↦ not_left (le_plain area refl (lt_z_false v.if-is_left.false)) o
-    ]
+    let area = returned w64 c.side_of.type_inv (c.side_of.ensures.value.area w.from w.to w.between_keys.2) in
+    λ e.
+    record {
+      after = less w.from c.args.key (sym c.lt.ensures ∙ c.if-lt.true);
+      before = less c.args.key w.to (sym c.lt-then-lt.ensures ∙ e);
+      left = is_left _ _ _ (lt_plain refl area (le_z_false c.if-side_of-le0.false));
+    }
