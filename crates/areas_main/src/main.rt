@@ -38,14 +38,16 @@ fn print_reply<const N: usize>(
 
 fn run_outer(input: &mut impl Read, output: &impl Print, boxes: &[i32]) -> io::Result<()> {
     let mut buffer = [MARK; BUFFER];
-    let answer = cases::read_front(input, &mut buffer);
+    let room = cases::read_front(input, &buffer);
+    let answer = &mut buffer[..room];
     let reply = areas::outer_polygon(boxes, answer);
     print_reply(output, "outer", reply.map(|count| [count]), answer)
 }
 
 fn run_corners(input: &mut impl Read, output: &impl Print, boxes: &[i32]) -> io::Result<()> {
     let mut buffer = [MARK; BUFFER];
-    let answer = cases::read_front(input, &mut buffer);
+    let room = cases::read_front(input, &buffer);
+    let answer = &mut buffer[..room];
     let reply = areas::corner_polygons(boxes, answer);
     let counts = reply.map(|n| [n.southwest, n.southeast, n.northeast, n.northwest]);
     print_reply(output, "corners", counts, answer)
@@ -53,7 +55,7 @@ fn run_corners(input: &mut impl Read, output: &impl Print, boxes: &[i32]) -> io:
 
 fn run_case(input: &mut impl Read, output: &impl Print, list: &mut [i32]) -> io::Result<()> {
     cases::read_over(input, list);
-    let boxes = cases::read_front(input, list);
+    let boxes = &list[..cases::read_front(input, list)];
     run_outer(input, output, boxes)?;
     run_corners(input, output, boxes)
 }

@@ -1,8 +1,8 @@
 // What the drivers share: a case's numbers from the input, and what is printed of a reply.
 //
-// On the input a count is four bytes, high byte first, and a number is the count that is its two's complement. An
-// input that ends early, or a read of it that fails, leaves what stood before. A write that fails is the caller's to
-// answer.
+// On the input a count is four bytes, high byte first, and a number is the count that is its two's complement. Where an
+// input ends early, or a read of it fails, what is missing of a number is 0, and bytes stay as they stood. A write that
+// fails is the caller's to answer.
 #![tactic(auto)]
 
 ghost use Rattle.std.specs.Prelude.{◌≡◌, ◌≤◌, length, take};
@@ -29,26 +29,27 @@ pub fn read_number(input: &mut impl Read) -> i32 {
     i32::from_be_bytes(read_bytes(input))
 }
 
-// The part at the front of a list that the next count says: no more than the list has.
-pub fn read_front<'a, T>(input: &mut impl Read, list: &'a mut [T]) -> &'a mut [T]
-    ensures within { length result.now ≤ length list.old }
-    ensures front { result.now ≡ take (length result.now) list.old }
+// The next count, as the length of a part at the front of a list: no more than the list has. (No slice: a part of a
+// list that is lent shared could not be written, and one of a list that is lent to be changed asks for more.)
+pub fn read_front<T>(input: &mut impl Read, list: &[T]) -> usize
+    ensures within { result ≤ length list.now }
+    ensures front { result ≡ length (take result list.now) }
 {
-    let count = (read_count(input) as usize).min(list.len());
-    &mut list[..count]
+    (read_count(input) as usize).min(list.len())
 }
 
 // Reads a count and so many numbers over the front of a list.
 pub fn read_over(input: &mut impl Read, list: &mut [i32]) {
-    for number in read_front(input, list).iter_mut() {
+    let count = read_front(input, list);
+    for number in list[..count].iter_mut() {
         *number = read_number(input);
     }
 }
 
 // Reads a count and so many bytes over the front of some bytes.
 pub fn read_bytes_over(input: &mut impl Read, bytes: &mut [u8]) {
-    let part = read_front(input, bytes);
-    let _ = input.read_exact(part);
+    let count = read_front(input, bytes);
+    let _ = input.read_exact(&mut bytes[..count]);
 }
 
 // ---- printed

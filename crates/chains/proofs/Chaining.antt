@@ -4,8 +4,8 @@ use Prim.Native.Nat.{ℕ, zero, suc, ◌+◌, ◌-◌, ◌≤◌, ◌<◌}
 use native.Mathlib.Decide.{dec_lt}
 use native.Mathlib.Omega.{arith}
 use mathlib.Core.List.{List}
-use lib.ListN.{length, set}
-use lib.Seq.{get_or-set_same, get_or-set_other}
+use lib.ListN.{length, set, take}
+use lib.Seq.{get_or-set_same, get_or-set_other, get_or-take, length-take-le}
 use native.Mathlib.Numerals.{add-one}
 use lib.IntN.{pos}
 use lib.Signed.{◌≤ℤ◌, ◌<ℤ◌}
@@ -19,6 +19,21 @@ use Rattle.chains.proofs.Turning.{turn_same, turn_end, not_right_end, down, beyo
 -- numbers that are among keys are keys
 pub among : {q s : ℕ → ℕ} {m k : ℕ} → AllKeys q m → EachAmong s k q m → AllKeys s k
 among ks w = record { key = λ i h. let r = w.find i h in subst IsKey (sym r.2) (ks.key r.0 r.1) }
+
+-- so the vertices of a chain are
+pub chain_keys : {q s : ℕ → ℕ} {m n k : ℕ} → AllKeys q n → m ≤ n → Chain q m s k → AllKeys s k
+chain_keys ks h ch = among ks (record { find = λ j l. let r = ch.from j l in (r.0, omega (arith, r.1), r.2) })
+
+-- what popping leaves of the first k numbers of a list
+pub popped_front : (s : List ℕ) (k r n : ℕ) → k ≤ length s → Popped (get (take k s)) (length (take k s)) r n → Popped (get s) k r n
+popped_front s k r n h p =
+    let e = length-take-le k s h in
+    record {
+      some = p.some;
+      most = omega (arith, p.most);
+      bend = λ j z. rw (← get_or-take k s j 0 (omega (arith, p.most)), ← get_or-take k s (suc j) 0 (omega (arith, p.most))) (p.bend j z);
+      gone = λ j z l. rw (← get_or-take k s j 0 (omega arith), ← get_or-take k s (suc j) 0 l) (p.gone j z (omega arith));
+    }
 
 -- the next key q m, which is greater than those before it, pushed after popping: s' is s below n, and that key at n
 module _ (q : ℕ → ℕ) (m : ℕ) (s : ℕ → ℕ) (k n : ℕ) (srt : Sorted q 0 (suc m)) (fresh : (i : ℕ) → i < m → q i < q m) (ch : Chain q m s k)

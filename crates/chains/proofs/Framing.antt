@@ -7,6 +7,7 @@ use native.Mathlib.Omega.{arith}
 use lib.ListN.{length, get_or-append}
 use lib.Seq.{get_or-append_seam}
 use Rattle.orders.specs.Order.{get, Sorted}
+use Rattle.turns.specs.Keys.{IsKey, AllKeys}
 use Rattle.chains.specs.Chains.{Amid, framed}
 
 -- where the i-th of m framed numbers stands
@@ -29,6 +30,15 @@ module _ (first : ℕ) (l : List ℕ) (last : ℕ) where
 
   pub framed_last : framed first l last (suc (length l)) ≡ last
   framed_last = get_or-append_seam l last [] 0
+
+  -- all but the last are keys
+  pub framed_keys : IsKey first → AllKeys (get l) (length l) → AllKeys (framed first l last) (length l + 1)
+  framed_keys f ks = record { key = λ i h. go i h (place_of (length l) i (omega arith)) }
+    where
+      go : (i : ℕ) → i < length l + 1 → Place (length l) i → IsKey (framed first l last i)
+      go i h (at_first e) = rw e f
+      go i h (amid j o e) = rw (e, framed_at j o) (ks.key j o)
+      go i h (at_last e) = absurd (omega arith)
 
   module _ (h : first < last) (a : Amid (get l) (length l) first last) where
     pub framed_above : (i : ℕ) → 0 < i → i < length l + 2 → first < framed first l last i

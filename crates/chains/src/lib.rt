@@ -7,17 +7,18 @@ ghost use Rattle.std.specs.Prelude.{◌+◌, ◌≤◌, ◌<◌, length};
 ghost use Rattle.orders.specs.Order.{get, Sorted};
 ghost use Rattle.chains.specs.Chains.{Chain, Popped, Amid, framed};
 
+use codes::Coded;
 use extremes::Ends;
-use turns::Key;
+use turns::{Key, Keys};
 
-// How many of the first k vertices are left, where those go at which the way to r would not turn right.
-fn pop(stack: &[Key], k: usize, r: Key) -> usize
-    requires { (1 ≤ k) × (k ≤ length stack.now) }
-    ensures { Popped (get stack.now) k r result }
+// How many of some vertices are left, where those go at which the way to r would not turn right.
+fn pop(stack: Keys, r: Key) -> usize
+    requires { 1 ≤ length stack.codes.now }
+    ensures { Popped (get stack.entry.codes.now) (length stack.entry.codes.now) r result }
 {
-    for n in (1..k).rev() {
-        let a = stack[n - 1];
-        let b = stack[n];
+    for n in (1..stack.codes.len()).rev() {
+        let a = stack.at(n - 1);
+        let b = stack.at(n);
         if turns::turns_right(a, b, r) {
             return n + 1;
         }
@@ -27,21 +28,22 @@ fn pop(stack: &[Key], k: usize, r: Key) -> usize
 
 // The upper chain of keys in order between two ends: its vertices, in order, are the first of stack. All keys are
 // strictly between the ends.
-pub fn upper_chain(ends: &Ends, keys: &[Key], stack: &mut [Key]) -> usize
-    requires keys_in_bounds { (length keys.now + 2 ≤ length stack.old) × (ends.now.first < ends.now.last) }
-    requires sorted { Sorted (get keys.now) 0 (length keys.now)
-        × Amid (get keys.now) (length keys.now) ends.now.first ends.now.last }
-    ensures { Chain (framed ends.now.first keys.now ends.now.last) (length keys.now + 2)
+pub fn upper_chain(ends: &Ends, keys: Keys, stack: &mut [u32]) -> usize
+    requires keys_in_bounds { (length keys.codes.now + 2 ≤ length stack.old) × (ends.now.first < ends.now.last) }
+    requires sorted { Sorted (get keys.codes.now) 0 (length keys.codes.now)
+        × Amid (get keys.codes.now) (length keys.codes.now) ends.now.first ends.now.last }
+    ensures { Chain (framed ends.now.first keys.entry.codes.now ends.now.last) (length keys.entry.codes.now + 2)
         (get stack.new) result }
 {
-    stack[0] = ends.first;
+    stack[0] = ends.first.code();
     let mut k: usize = 1;
-    for &r in keys {
-        let n = pop(stack, k, r);
-        stack[n] = r;
+    for i in 0..keys.codes.len() {
+        let r = keys.at(i);
+        let n = pop(Keys { codes: &stack[..k] }, r);
+        stack[n] = r.code();
         k = n + 1;
     }
-    let n = pop(stack, k, ends.last);
-    stack[n] = ends.last;
+    let n = pop(Keys { codes: &stack[..k] }, ends.last);
+    stack[n] = ends.last.code();
     n + 1
 }

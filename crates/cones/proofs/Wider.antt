@@ -1,6 +1,7 @@
 -- The cone of one more corner: what it says of the points. Assumes nothing.
 use mathlib.Core.Path.{◌≡◌, refl, sym, ◌∙◌, ap, subst}
 use mathlib.Core.Bool.{Bool, true, false, cond}
+use mathlib.Core.List.{List}
 use Prim.Native.Nat.{ℕ}
 use lib.Dec.{eqb}
 use lib.IntN.{pos}
@@ -14,14 +15,25 @@ use Rattle.turns.specs.Turns.{turn_of}
 use Rattle.turns.specs.declared.Turn.{Turn}
 use Rattle.turns.specs.declared.Turn.TheVariants.{Right, Straight, Left}
 use Rattle.turns.proofs.Order.{point_injective}
-use Rattle.cones.specs.Cones.{Widened}
-use Rattle.cones.specs.Wider.{turn_from, are_opposite, ray_by, line_by, wedge_by, half_by, cone_with}
+use Rattle.plane.specs.Members.{none, ◌&◌}
+use Rattle.rounds.specs.declared.Box.{Box}
+use Rattle.cones.specs.Cones.{Widened, ConeSays}
+use Rattle.cones.specs.Wider.{Keyed, turn_from, are_opposite, ray_by, line_by, wedge_by, half_by, cone_with}
 use Rattle.cones.specs.declared.CornerKey.{CornerKey}
 use Rattle.cones.specs.declared.Cone.{Cone}
 use Rattle.cones.specs.declared.Cone.TheVariants.{Nothing, Ray, Line, Wedge, Half, Around}
 use Rattle.cones.proofs.Turns.{is_right, is_straight, is_left}
 use Rattle.cones.proofs.Widening.{nothing_same, nothing_ray, ray_to_left, ray_to_right, ray_to_line, ray_same, line_to_left, line_to_right, line_same}
 use Rattle.cones.proofs.Widening.{half_same, half_to_around, wedge_same, wedge_to_right, wedge_to_left, wedge_half_right, wedge_half_left, wedge_to_around, around_same}
+
+-- the corners of a cone that says something of points have keys
+pub says_keyed : (bs : List Box) (qs : List Point) (p : Point) (cone : Cone) → ConeSays bs qs p cone → Keyed cone
+says_keyed bs qs p Nothing h = none
+says_keyed bs qs p (Ray a) h = h.seen_a.named.key & none
+says_keyed bs qs p (Line a b) h = h.seen_a.named.key & h.seen_b.named.key & none
+says_keyed bs qs p (Wedge a b) h = h.seen_a.named.key & h.seen_b.named.key & none
+says_keyed bs qs p (Half a b) h = h.seen_a.named.key & h.seen_b.named.key & none
+says_keyed bs qs p (Around a b c) h = h.seen_a.named.key & h.seen_b.named.key & h.seen_c.named.key & none
 
 module _ (plug : ℕ) (v : CornerKey) where
   abbrev p : Point

@@ -1,9 +1,10 @@
 -- The cone of one more corner, as the code finds it. It fixes which corners a cone keeps, so that answers can be proved equal; what the cone then says of the points
 -- is `Widened` (Cones). Definitions only.
-use Rattle.std.specs.Prelude.{Bool, true, false, cond, ℕ, eqb, pos}
+use Rattle.std.specs.Prelude.{Bool, true, false, cond, List, [], ◌∷◌, ℕ, eqb, pos}
 use Rattle.std.specs.Int.Signed.{lt_z}
 use Rattle.plane.specs.Points.{signed_area, dot_product}
-use Rattle.turns.specs.Keys.{key_at, point_of}
+use Rattle.plane.specs.Members.{All}
+use Rattle.turns.specs.Keys.{IsKey, key_at, point_of}
 use Rattle.turns.specs.Turns.{turn_of}
 use Rattle.turns.specs.declared.Turn.{Turn}
 use Rattle.turns.specs.declared.Turn.TheVariants.{Right, Straight, Left}
@@ -18,6 +19,19 @@ use Rattle.cones.specs.declared.Cone.TheVariants.{Nothing, Ray, Line, Wedge, Hal
 -- the corner of a box with a number, as a key
 abbrev pub numbered : ℕ → Box → Corner → CornerKey
 numbered n b c = record { key = key_at (corner_of c b); number = n; corner = c }
+
+-- the corners that a cone holds
+abbrev pub held : Cone → List CornerKey
+held Nothing = []
+held (Ray a) = a ∷ []
+held (Line a b) = a ∷ b ∷ []
+held (Wedge a b) = a ∷ b ∷ []
+held (Half a b) = a ∷ b ∷ []
+held (Around a b c) = a ∷ b ∷ c ∷ []
+
+-- each of them has the key of a point of the span
+abbrev pub Keyed : Cone → Type 0
+Keyed cone = All (λ v. IsKey v.key) (held cone)
 
 -- the plug is strictly inside
 abbrev pub is_around : Cone → Bool

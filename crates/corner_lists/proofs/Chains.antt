@@ -12,8 +12,10 @@ use lib.Seq.{length-take-le, get_or-take, get_or-drop, get_or-append-add}
 use Rattle.integers.proofs.Order.{≤_trans}
 use Rattle.plane.specs.Points.{point}
 use Rattle.plane.specs.declared.Point.{Point}
+use Rattle.plane.specs.Members.{All}
 use Rattle.plane.proofs.Lists.{index_of_all, map_at}
 use Rattle.turns.specs.Keys.{IsKey, KeyOf, point_of}
+use Rattle.turns.proofs.Listed.{front_listed}
 use Rattle.orders.specs.Order.{get}
 use Rattle.rounds.specs.Boxes.{Ordered, BoxList, boxes_of, box_at, corner_of, corners_of, all_corners}
 use Rattle.rounds.specs.declared.Corner.{Corner}
@@ -24,7 +26,7 @@ use Rattle.chains.proofs.Covering.{under_wider, east_from, north_from, order_fro
 use Rattle.quarters.specs.Quarters.{FromTo, UpperInput, UpperList}
 use Rattle.corner_lists.specs.KeyLists.{KeysOf}
 use Rattle.corner_lists.specs.ChainKeys.{KeyIn, ChainRoom, ChainKeys}
-use Rattle.corner_lists.proofs.Filling.{two_length}
+use Rattle.corner_lists.proofs.Filling.{two_length, keys_listed}
 use Rattle.corner_lists.proofs.Boxes.{corner_at_lem, at_corner, Widest}
 use Rattle.corner_lists.proofs.Ends.{HoldsKeys}
 
@@ -135,6 +137,11 @@ module _ (f : ℕ → ℕ) (g : Point → Point) (sees : (x : ℕ) → IsKey x �
           under = λ x i. let w = corner_at_lem l i.listed in at_place w.k w.in_list w.corner (f x) (sees x i.key ∙ ap g w.is);
         }
 
+-- where f makes keys of keys, the first u are a list of keys
+pub chain_listed : {f : ℕ → ℕ} {qs : List Point} {n first last u : ℕ} {out : List ℕ} → ((x : ℕ) → IsKey x → IsKey (f x)) → ChainKeys f qs n first last out u → u ≤ length out
+    → All IsKey (take u out)
+chain_listed {u = u} {out = out} keeps ck h = front_listed out u h (record { key = λ j o. let r = ck.from j o in subst IsKey (sym r.2) (keeps r.0 r.1.key) })
+
 -- ---- the two lists, one behind the other in an array
 
 module _ (l : List ℤ) (a b : Corner) (n : ℕ) (is : n ≡ length l / 4) (ks : List ℕ) (room : n + n ≤ length ks)
@@ -155,6 +162,9 @@ module _ (l : List ℤ) (a b : Corner) (n : ℕ) (is : n ≡ length l / 4) (ks :
     where
       taken : i < length (take (length qs) ks)
       taken = omega (arith, length-take-le (length qs) ks (omega (arith, qs_length)), qs_length)
+
+  pub both_keys : All IsKey (take (n + n) ks)
+  both_keys = keys_listed qs_length kk
 
   pub both_taken : length (take (n + n) ks) ≡ n + n
   both_taken = length-take-le (n + n) ks room

@@ -8,8 +8,10 @@ use lib.ListN.{length, get_or, take}
 use lib.Seq.{length-take-le}
 use Rattle.plane.specs.Points.{point}
 use Rattle.plane.specs.declared.Point.{Point}
+use Rattle.plane.specs.Members.{All}
 use Rattle.plane.proofs.Lists.{index_of_all, map_at}
-use Rattle.turns.specs.Keys.{KeyOf, point_of}
+use Rattle.turns.specs.Keys.{IsKey, KeyOf, point_of}
+use Rattle.turns.proofs.Listed.{listed}
 use Rattle.orders.specs.Order.{get}
 use Rattle.rounds.specs.Boxes.{BoxList, boxes_of, box_at, corner_of, corners_of, all_corners}
 use Rattle.rounds.specs.declared.Corner.{Corner}
@@ -26,6 +28,10 @@ use Rattle.corner_lists.proofs.Boxes.{corner_at_lem, at_corner, least_east, most
 pub record HoldsKeys (f : ℕ → ℕ) (l : List ℤ) (corner : Corner) (ks : List ℕ) : Type 0 where
   pub long : length ks ≡ length l / 4
   pub at : (k : ℕ) → k < length l / 4 → (x : ℕ) × KeyOf (corner_of corner (box_at l (k * 4))) x × (get ks k ≡ f x)
+
+-- where f makes keys of keys, all are keys
+pub held_keys : {f : ℕ → ℕ} {l : List ℤ} {corner : Corner} {ks : List ℕ} → ((x : ℕ) → IsKey x → IsKey (f x)) → HoldsKeys f l corner ks → All IsKey ks
+held_keys keeps h = listed (record { key = λ k o. let r = h.at k (omega (arith, h.long)) in subst IsKey (sym r.2) (keeps r.0 r.1.key) })
 
 -- the keys of one corner, at the front of an array
 pub one_held : (l : List ℤ) (c : Corner) (n : ℕ) → n ≡ length l / 4 → (ks : List ℕ) → n ≤ length ks → KeysOf (corners_of c (boxes_of l)) ks → HoldsKeys (λ k. k) l c (take n ks)

@@ -78,6 +78,10 @@ keys_append qs rs xs ys zs n e h k f g =
 pub keys_before : (qs : List Point) (xs ys : List ℕ) → length qs ≤ length xs → KeysOf qs xs → KeysOf qs (xs ++ ys)
 keys_before qs xs ys h f = let e = take-append-le (length qs) xs ys h in record { keys = rw e f.keys; points = rw e f.points }
 
+-- the front of the list, as a list of keys
+pub keys_listed : {qs : List Point} {ks : List ℕ} {n : ℕ} → length qs ≡ n → KeysOf qs ks → All IsKey (take n ks)
+keys_listed {ks = ks} e f = subst (λ n. All IsKey (take n ks)) e f.keys
+
 -- the part from n on, as the callee that was lent it sees it
 pub part_length : (n : ℕ) (xs : List ℕ) → n ≤ length xs → length (take (length xs - n) (drop n xs)) ≡ length xs - n
 part_length n xs h = length-take-le (length xs - n) (drop n xs) (simp length-drop (omega arith))

@@ -4,12 +4,13 @@
 #![tactic(auto)]
 
 ghost use Rattle.std.specs.Prelude.{◌≡◌, ◌<◌, ◌≤◌, true, false, length, map};
-ghost use Rattle.turns.specs.Keys.{IsKey};
+ghost use Rattle.turns.specs.Keys.{IsKey, AllKeys};
+ghost use Rattle.orders.specs.Order.{get};
 ghost use Rattle.turns.specs.Reflection.{reflected};
 ghost use Rattle.extremes.specs.Inner.{EndsOf, Lesser, Greater, FarKeys, Bounds, InRectangle, Kept, Outer};
 
 use codes::Coded;
-use turns::Key;
+use turns::{Key, Keys};
 
 // Fewer keys than these are all kept. At these many, dropping nearly halves the time for points at random and costs
 // hardly any on a circle, as measured.
@@ -42,16 +43,17 @@ struct Rectangle {
 
 // The keys that are farthest out: with the greatest and the least sum of coordinates, and the greatest and the least
 // difference. Only that they are keys of the list is promised: which they are decides how many others can be dropped.
-fn find_far(keys: &[Key]) -> Far
-    requires { 1 ≤ length keys.now }
-    ensures { FarKeys keys.now result }
+fn find_far(keys: Keys) -> Far
+    requires { 1 ≤ length keys.codes.now }
+    ensures { FarKeys keys.entry.codes.now result }
 {
-    let first = keys[0];
+    let first = keys.at(0);
     let mut ne = first.sum();
     let mut nw = first.difference();
     let mut sw = ne;
     let mut se = nw;
-    for &key in keys {
+    for i in 0..keys.codes.len() {
+        let key = keys.at(i);
         let sum = key.sum();
         let difference = key.difference();
         ne = ne.max(sum);
@@ -91,17 +93,17 @@ fn is_from(x: u32, low: u32, high: u32) -> bool
     x.wrapping_sub(low) < high.saturating_sub(low)
 }
 
-// Whether a key is outside the rectangle; if not, it is in it.
-fn is_outside(key: Key, r: Rectangle) -> bool
+// Whether a key, by its number, is outside the rectangle; if not, it is in it.
+fn is_outside(key: u32, r: Rectangle) -> bool
     ensures { result ≡ false → InRectangle key r }
 {
-    let inside = is_from(key.east_part(), r.west, r.east)
-        & is_from(key.north_part(), r.south, r.north);
+    let inside = is_from(turns::east_part(key), r.west, r.east)
+        & is_from(turns::north_part(key), r.south, r.north);
     !inside
 }
 
 // Moves the keys that are not in the rectangle to the front, and counts them.
-fn keep_outside(keys: &mut [Key], r: Rectangle) -> usize
+fn keep_outside(keys: &mut [u32], r: Rectangle) -> usize
     ensures { Kept keys.old keys.new result (λ k. InRectangle k r) }
 {
     let mut n: usize = 0;
@@ -115,7 +117,7 @@ fn keep_outside(keys: &mut [Key], r: Rectangle) -> usize
 }
 
 // How many of some keys are not in the rectangle.
-fn count_outside(keys: &[Key], r: Rectangle) -> usize
+fn count_outside(keys: &[u32], r: Rectangle) -> usize
     ensures { result ≤ length keys.now }
 {
     keys.iter().filter(|key| is_outside(**key, r)).count()
@@ -128,35 +130,51 @@ fn is_open(r: Rectangle) -> bool {
 
 // Whether some keys lie round others, so that it pays to look for those that can be dropped: where points are in line
 // or on a circle, none do.
-fn is_filled(sample: &[Key]) -> bool
-    requires { 1 ≤ length sample.now }
+fn is_filled(sample: Keys) -> bool
+    requires { 1 ≤ length sample.codes.now }
 {
     let r = between_far(find_far(sample));
-    is_open(r) & (count_outside(sample, r) + FILLED <= sample.len())
+    is_open(r) & (count_outside(sample.codes, r) + FILLED <= sample.codes.len())
 }
 
 // Moves keys to the front, and counts them, so that each other has some of these in all four quadrants round it, and
 // is no vertex. Where a sample shows that few would be dropped, all are kept at once.
-pub fn drop_inner(keys: &mut [Key]) -> usize
-    requires { 1 ≤ length keys.old }
+pub fn drop_inner(keys: &mut [u32]) -> usize
+    requires { (1 ≤ length keys.old) × AllKeys (get keys.old) (length keys.old) }
     ensures { Outer keys.old keys.new result }
 {
     if keys.len() < DROP_FROM {
         return keys.len();
     }
-    if !is_filled(&keys[..SAMPLE]) {
+    let sample = &keys[..SAMPLE];
+    if !is_filled(Keys { codes: sample }) {
         return keys.len();
     }
-    let far = find_far(keys);
+    let far = find_far(Keys { codes: keys });
     let r = between_far(far);
     keep_outside(keys, r)
 }
 
-// The least and the greatest of some values.
+// The least and the greatest of some numbers, or of some keys. (That they differ is a clause where a line or a chain is
+// drawn between them: of one point alone both are the same.)
 #[derive(Clone, Copy)]
 pub struct Ends<T = Key> {
     pub first: T,
     pub last: T,
+}
+
+impl Ends<u32> {
+    // The same as keys, where both are.
+    pub fn keys(self) -> Ends
+        requires { IsKey self.first × IsKey self.last }
+        ensures first { result.first ≡ self.first }
+        ensures last { result.last ≡ self.last }
+    {
+        Ends {
+            first: Key::from_code(self.first),
+            last: Key::from_code(self.last),
+        }
+    }
 }
 
 impl Ends<Key> {

@@ -56,13 +56,16 @@ fn run_writer(
 
 fn run_case(input: &mut impl Read, output: &impl Print, file: &mut [u8]) -> io::Result<()> {
     cases::read_bytes_over(input, file);
-    let file = cases::read_front(input, file);
+    let file = &file[..cases::read_front(input, file)];
     let mut box_buffer = [MARK; EDGES];
     let mut plug_buffer = [MARK; COORDINATES];
     let mut file_buffer = [MARK_BYTE; WRITTEN];
-    let boxes = cases::read_front(input, &mut box_buffer);
-    let plugs = cases::read_front(input, &mut plug_buffer);
-    let written = cases::read_front(input, &mut file_buffer);
+    let boxes_room = cases::read_front(input, &box_buffer);
+    let boxes = &mut box_buffer[..boxes_room];
+    let plugs_room = cases::read_front(input, &plug_buffer);
+    let plugs = &mut plug_buffer[..plugs_room];
+    let written_room = cases::read_front(input, &file_buffer);
+    let written = &mut file_buffer[..written_room];
     run_reader(output, file, boxes, plugs)?;
     run_writer(output, boxes, plugs, written)
 }

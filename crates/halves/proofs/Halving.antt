@@ -14,7 +14,7 @@ use lib.Seq.{get_or-set_same, get_or-set_other}
 use Rattle.std.proofs.lemmas.Int.{ints}
 use Rattle.plane.specs.Points.{signed_area}
 use Rattle.orders.specs.Order.{get}
-use Rattle.turns.specs.Keys.{point_of, IsKey, AllKeys}
+use Rattle.turns.specs.Keys.{point_of, AllKeys}
 use Rattle.turns.specs.Reflection.{reflected}
 use Rattle.chains.specs.Chains.{turn}
 use Rattle.extremes.specs.Inner.{Among, EndsOf}
@@ -103,7 +103,6 @@ NotRight first last k = pos 0 ≤ℤ turn first last k
 -- after i keys are passed: u are in keys and v in mirror
 pub record Splitting (old : List ℕ) (first last : ℕ) (keys mirror : List ℕ) (i u v : ℕ) : Type 0 where
   pub i_in : i ≤ length old
-  passed : AllKeys (get old) i
   pub long : length keys ≡ length old
   pub room : length old ≤ length mirror
   pub unread : (j : ℕ) → i ≤ j → get keys j ≡ get old j
@@ -117,7 +116,6 @@ pub splitting : (old mirror : List ℕ) (first last : ℕ) → length old ≤ le
 splitting old mirror first last h =
     record {
       i_in = omega arith;
-      passed = record { key = λ j l. absurd (omega arith) };
       long = refl;
       room = h;
       unread = λ j l. refl;
@@ -140,7 +138,7 @@ counted false d e t p = inr (e, p refl)
 
 module _ (old : List ℕ) (first last : ℕ) (keys mirror : List ℕ) (i u v : ℕ) (p : Splitting old first last keys mirror i u v) where
   -- a turn, with what the code counts
-  module _ (key key' : ℕ) (left right : Bool) (d e : ℕ) (h : first < last) (o : i < length old) (k : IsKey key) (ke : key ≡ get old i) (ke' : key' ≡ reflected key)
+  module _ (key key' : ℕ) (left right : Bool) (d e : ℕ) (h : first < last) (o : i < length old) (ke : key ≡ get old i) (ke' : key' ≡ reflected key)
       (le : left ≡ lt_z (pos 0) (signed_area (point_of first) (point_of last) (point_of key)))
       (re : right ≡ lt_z (signed_area (point_of first) (point_of last) (point_of key)) (pos 0))
       (de : d ≡ from_bool left) (ee : e ≡ from_bool right) where
@@ -176,7 +174,6 @@ module _ (old : List ℕ) (first last : ℕ) (keys mirror : List ℕ) (i u v : �
     split_more =
         record {
           i_in = omega arith;
-          passed = record { key = λ j l. next j l (dec_lt j i) };
           long = length-set keys u key ∙ p.long;
           room = simp length-set p.room;
           unread = λ j l. get_or-set_other keys u j key 0 (λ z. omega (arith, p.few)) ∙ p.unread j (omega arith);
@@ -189,17 +186,13 @@ module _ (old : List ℕ) (first last : ℕ) (keys mirror : List ℕ) (i u v : �
               part_more (get old) i reflected (get mirror) (get (set mirror v key')) v _ _ p.down (λ j l. get_or-set_other mirror v j key' 0 (λ z. omega arith))
               (get_or-set_same mirror v key' 0 (omega (arith, p.few, p.room)) ∙ ke' ∙ ap reflected ke) e rights;
         }
-      where
-        next : (j : ℕ) → j < i + 1 → Dec (j < i) → IsKey (get old j)
-        next j l (yes o) = p.passed.key j o
-        next j l (no o) = let z : j ≡ i = omega arith in rw z (subst IsKey ke k)
 
-  pub split_end : length old ≤ i → EndsOf old first last → Halves old first last keys mirror u v
-  split_end h n =
+  pub split_end : AllKeys (get old) (length old) → length old ≤ i → EndsOf old first last → Halves old first last keys mirror u v
+  split_end ks h n =
       let e : i ≡ length old = omega (arith, p.i_in) in
       let s = subst (λ j. Spare (get old) first last j (u + v)) e p.spare in
       record {
-        all_keys = subst (AllKeys (get old)) e p.passed;
+        all_keys = ks;
         few = s.but_both n.first_in n.last_in;
         above = subst (λ j. Part (get old) j (λ k. k) (get keys) u (Left first last) (NotLeft first last)) e p.up;
         below = subst (λ j. Part (get old) j reflected (get mirror) v (Right first last) (NotRight first last)) e p.down;

@@ -26,20 +26,23 @@ use Rattle.halves.specs.Halves.{Appended}
 use Rattle.hulls.specs.Hulls.{Least, Hull}
 use Rattle.chains.proofs.Chaining.{among}
 use Rattle.chains.proofs.Turning.{turn_over}
-use Rattle.hulls.proofs.Mirroring.{Mirrors, reflected_turn}
+use Rattle.hulls.proofs.Mirroring.{Mirrors, reflected_turn, mirror_keys}
 use Rattle.hulls.proofs.Halving.{Half, widen}
-use Rattle.hulls.proofs.Parting.{Parted, part_under, first_key, last_key}
+use Rattle.extremes.proofs.Extreme.{first_key, last_key}
+use Rattle.hulls.proofs.Parting.{Parted, part_under}
 use Rattle.hulls.proofs.Listing.{Closed, closed_few, single_key, closed_is, sides_few}
 use Rattle.hulls.proofs.Outlines.{closed_outline, point_in, from_point, within_points}
 use Rattle.extremes.proofs.Dropping.{front_rest}
 
 -- ---- a closed listing is the polygon
 
-pub closed_hull : (keys vertices : List ℕ) (h : ℕ) → h ≤ length vertices → Closed (get keys) (length keys) (get (take h vertices)) h → Hull keys vertices h
-closed_hull keys vertices h room c =
+pub closed_hull : (keys vertices : List ℕ) (h : ℕ) → h ≤ length vertices → AllKeys (get keys) (length keys)
+    → Closed (get keys) (length keys) (get (take h vertices)) h → Hull keys vertices h
+closed_hull keys vertices h room ks c =
     record {
       some = c.some;
       few = closed_few c;
+      listed = record { key = λ i l. rw (← get_or-take h vertices i 0 l) ((among ks c.from).key i l) };
       polygon =
           outline_polygon (closed_outline keys (take h vertices)
           (subst (λ n. Closed (get keys) (length keys) (get (take h vertices)) n) (sym (length-take-le h vertices room)) c));
@@ -68,6 +71,7 @@ outer_hull {keys} {others} {vertices} l w v g =
     record {
       some = g.some;
       few = omega (arith, g.few);
+      listed = g.listed;
       polygon = let r = g.first.listed in same_polygon (within_points keys others w) back (point_of (get keys r.0)) (point_in keys r.0 r.1) g.polygon;
       first = record {
         listed = let r = g.first.listed in let s = w.find r.0 r.1 in (s.0, s.1, r.2 ∙ s.2);
@@ -94,9 +98,10 @@ left_hull old new n l o =
 
 -- ---- the whole: the two parts of the keys, u of them in up and v in down; both in order, in up' and down'; the two chains, of ku vertices in old and kl in l
 
--- what the two chains make: not too many vertices; and the first ones without their last, then the others without theirs, are the polygon
+-- what the two chains make: not too many vertices; the lower chain's are keys; and the first ones without their last, then the others without theirs, are the polygon
 pub record TwoChains (keys old l : List ℕ) (ku kl : ℕ) : Type 0 where
   pub few : ku - 1 + (kl - 1) ≤ length keys
+  pub lower : AllKeys (get l) (kl - 1)
   pub hull : (new : List ℕ) → length keys ≤ length new → kl - 1 ≤ length l
       → Appended reflected (get old) (get new) (get (take (kl - 1) l)) (ku - 1) (length (take (kl - 1) l)) → Hull keys new (ku - 1 + (kl - 1))
 
@@ -199,11 +204,14 @@ module _ (keys up down old l : List ℕ) (first last ku kl : ℕ) (ks : AllKeys 
   made_few : ku - 1 + (kl - 1) ≤ length keys
   made_few = omega (arith, many, sides_few (get all) (length all) sorted_all.sorted keys_all ends_all (get old) (ku - 1) cu' back mirrored (get l) (kl - 1) cl')
 
+  made_lower : AllKeys (get l) (kl - 1)
+  made_lower = among (mirror_keys (get all) (length all) back keys_all mirrored) (record { find = λ j o. cl'.from j (omega arith) })
+
   made_hull : (new : List ℕ) → length keys ≤ length new → kl - 1 ≤ length l
       → Appended reflected (get old) (get new) (get (take (kl - 1) l)) (ku - 1) (length (take (kl - 1) l)) → Hull keys new (ku - 1 + (kl - 1))
   made_hull new long room w =
       same_hull (omega (arith, many)) inward outward
-      (closed_hull all new (ku - 1 + (kl - 1)) (omega (arith, made_few))
+      (closed_hull all new (ku - 1 + (kl - 1)) (omega (arith, made_few)) keys_all
       (closed_is (get all) (length all) sorted_all.sorted keys_all ends_all (get old) (ku - 1) cu' back mirrored (get l) (kl - 1) cl'
       (get (take (ku - 1 + (kl - 1)) new))
       (λ j o. get_or-take (ku - 1 + (kl - 1)) new j 0 (omega arith) ∙ w.before j o)
@@ -211,7 +219,7 @@ module _ (keys up down old l : List ℕ) (first last ku kl : ℕ) (ks : AllKeys 
       ∙ ap reflected (get_or-take (kl - 1) l i 0 o))))
 
   pub chained : TwoChains keys old l ku kl
-  chained = record { few = made_few; hull = made_hull }
+  chained = record { few = made_few; lower = made_lower; hull = made_hull }
 
 -- the two parts of the keys that the line from the least to the greatest splits
 pub made : {keys upper lower old l : List ℕ} {first last first' last' ku kl : ℕ} → Parted keys first last upper lower → first < last
@@ -227,9 +235,10 @@ made {keys} {upper} {lower} {old} {l} {first} {last} {first'} {last'} {ku} {kl} 
     cu (rw (← f-is, ← l-is) cl)
 
 -- the same where all keys are one
-pub made_one : (keys out : List ℕ) (first last : ℕ) → 1 ≤ length keys → 1 ≤ length out → EndsOf keys first last → last ≤ first → get out 0 ≡ first → Hull keys out 1
-made_one keys out first last some long ends same e =
-    closed_hull keys out 1 long (single_key (get keys) (length keys) (get (take 1 out)) some (λ i o. is i o ∙ sym (is 0 some)) (get_or-take 1 out 0 0 (omega arith) ∙ e ∙ sym (is 0 some)))
+pub made_one : (keys out : List ℕ) (first last : ℕ) → 1 ≤ length keys → 1 ≤ length out → AllKeys (get keys) (length keys) → EndsOf keys first last
+    → last ≤ first → get out 0 ≡ first → Hull keys out 1
+made_one keys out first last some long ks ends same e =
+    closed_hull keys out 1 long ks (single_key (get keys) (length keys) (get (take 1 out)) some (λ i o. is i o ∙ sym (is 0 some)) (get_or-take 1 out 0 0 (omega arith) ∙ e ∙ sym (is 0 some)))
   where
     is : (i : ℕ) → i < length keys → get keys i ≡ first
     is i o = omega (arith, ends.least i o, ends.most i o)

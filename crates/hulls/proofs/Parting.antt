@@ -11,11 +11,14 @@ use lib.ListN.{length, take}
 use lib.Seq.{length-take-le, get_or-take}
 use Rattle.std.proofs.lemmas.Int.{ints}
 use Rattle.orders.specs.Order.{get, Sorted}
+use Rattle.plane.specs.Members.{All}
 use Rattle.turns.specs.Keys.{IsKey, AllKeys}
 use Rattle.turns.specs.Reflection.{reflected}
-use Rattle.turns.proofs.Reflection.{reflected_less}
+use Rattle.turns.proofs.Listed.{listed}
+use Rattle.turns.proofs.Reflection.{reflected_key, reflected_less}
 use Rattle.chains.specs.Chains.{turn, Amid, Under}
 use Rattle.extremes.specs.Inner.{Among, EndsOf}
+use Rattle.extremes.proofs.Extreme.{last_key}
 use Rattle.halves.specs.Halves.{Part, Halves, Reordered, PartsReordered}
 use Rattle.chains.proofs.Turning.{turn_first, turn_last}
 use Rattle.chains.proofs.Covering.{under_first, under_last, under_among, under_between}
@@ -48,15 +51,6 @@ module _ (old new : List ℕ) (u : ℕ) (r : Reordered old new u) (room : u ≤ 
           let w = r.all.find a.0 a.1 in
           (w.0, omega (arith, w.1), a.2 ∙ w.2 ∙ sym (get_or-take u new w.0 0 w.1))
 
--- ---- the ends of keys are keys
-
-module _ {keys : List ℕ} {first last : ℕ} (ends : EndsOf keys first last) (ks : AllKeys (get keys) (length keys)) where
-  pub first_key : IsKey first
-  first_key = let r = ends.first_in in subst IsKey (sym r.2) (ks.key r.0 r.1)
-
-  pub last_key : IsKey last
-  last_key = let r = ends.last_in in subst IsKey (sym r.2) (ks.key r.0 r.1)
-
 -- ---- keys off the line are strictly between its ends
 
 module _ {keys : List ℕ} {first last : ℕ} (ends : EndsOf keys first last) where
@@ -88,6 +82,9 @@ module _ {keys : List ℕ} {first last : ℕ} (ends : EndsOf keys first last) wh
             below = λ j h. let r = p.from j h in rw r.2 (before_last r.0 r.1 (inl r.3));
           }
 
+      pub upper_keys : AllKeys out u
+      upper_keys = record { key = λ j h. let r = p.from j h in subst IsKey (sym r.2) (ks.key r.0 r.1) }
+
     -- the part that is right of it, reflected
     module _ {out : ℕ → ℕ} {v : ℕ} (p : Part (get keys) (length keys) reflected out v (Right first last) (NotRight first last)) where
       pub lower_amid : Amid out v (reflected last) (reflected first)
@@ -96,6 +93,9 @@ module _ {keys : List ℕ} {first last : ℕ} (ends : EndsOf keys first last) wh
             above = λ j h. let r = p.from j h in rw r.2 (reflected_less (last_key ends ks) (before_last r.0 r.1 (inr r.3)));
             below = λ j h. let r = p.from j h in rw r.2 (reflected_less (ks.key r.0 r.1) (after_first r.0 r.1 (inr r.3)));
           }
+
+      pub lower_keys : AllKeys out v
+      lower_keys = record { key = λ j h. let r = p.from j h in subst IsKey (sym r.2) (reflected_key (ks.key r.0 r.1)) }
 
 -- ---- both parts, each in order: upper, and lower, which is reflected
 
@@ -107,23 +107,29 @@ pub record Parted (keys : List ℕ) (first last : ℕ) (upper lower : List ℕ) 
   pub upper_sorted : Sorted (get upper) 0 (length upper)
   pub lower_sorted : Sorted (get lower) 0 (length lower)
 
-pub parted : {keys up down up' down' : List ℕ} {first last u v : ℕ} → EndsOf keys first last
+pub parted : {keys up down up' down' : List ℕ} {first last u v : ℕ} → EndsOf keys first last → AllKeys (get keys) (length keys)
     → Halves keys first last up down u v → PartsReordered up up' down down' u v → u ≤ length up' → v ≤ length down'
     → Parted keys first last (take u up') (take v down')
-parted {keys} {up} {down} {up'} {down'} {first} {last} {u} {v} ends hs ro h k =
+parted {keys} {up} {down} {up'} {down'} {first} {last} {u} {v} ends ks hs ro h k =
     record {
       ends = ends;
-      all = hs.all_keys;
+      all = ks;
       above = part_front up up' u ro.upper h hs.above;
       below = part_front down down' v ro.lower k hs.below;
       upper_sorted = sorted_front up up' u ro.upper h;
       lower_sorted = sorted_front down down' v ro.lower k;
     }
 
--- what `chains::upper_chain` asks of each
+-- what `chains::upper_chain` asks of each, and the view of its keys
 module _ {keys : List ℕ} {first last : ℕ} {upper lower : List ℕ} (p : Parted keys first last upper lower) where
   pub upper_input : Sorted (get upper) 0 (length upper) × Amid (get upper) (length upper) first last
   upper_input = (p.upper_sorted, upper_amid p.ends p.all p.above)
+
+  pub upper_listed : All IsKey upper
+  upper_listed = listed (upper_keys p.ends p.all p.above)
+
+  pub lower_listed : All IsKey lower
+  lower_listed = listed (lower_keys p.ends p.all p.below)
 
   -- of the ends, reflected
   module _ {f l : ℕ} (fe : f ≡ reflected first) (le : l ≡ reflected last) where

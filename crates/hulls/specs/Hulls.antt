@@ -1,7 +1,7 @@
 -- The polygon of a list of keys. Definitions only.
 use Rattle.std.specs.Prelude.{◌≡◌, List, map, ℕ, ◌≤◌, ◌<◌, length, take}
 use Rattle.plane.specs.Polygons.{Polygon}
-use Rattle.turns.specs.Keys.{point_of}
+use Rattle.turns.specs.Keys.{point_of, AllKeys}
 use Rattle.orders.specs.Order.{get}
 
 -- x is the least number of the list: of keys, that of the westmost point, and the southmost of those
@@ -13,5 +13,6 @@ pub record Least (l : List ℕ) (x : ℕ) : Type 0 where
 pub record Hull (keys vertices : List ℕ) (count : ℕ) : Type 0 where
   pub some : 1 ≤ count
   pub few : count ≤ length keys
+  pub listed : AllKeys (get vertices) count
   pub polygon : Polygon (map point_of keys) (map point_of (take count vertices))
   pub first : Least keys (get vertices 0)

@@ -2,7 +2,7 @@
 -- What is linear is `lin`'s, and a product's sign comes from `mul_nn` and `mul_pos`. Numbers are implicit where a hypothesis shows them.
 -- Assumes nothing.
 use mathlib.Core.Path.{◌≡◌, sym}
-use mathlib.Core.Logic.{◌⊎◌, inl, inr}
+use mathlib.Core.Logic.{◌⊎◌, inl, inr, ⊎_elim}
 use Prim.Native.Nat.{ℕ, suc, ◌*◌, zero-le}
 use native.Mathlib.Omega.{arith}
 use Rattle.std.proofs.lemmas.Int.{ints, by_lt_z}
@@ -12,15 +12,21 @@ use lib.Signed.{◌≤ℤ◌, ◌<ℤ◌}
 use Rattle.integers.proofs.Expr.{◌⊕◌, ◌⊖◌, ◌⊗◌, ⊝◌, #◌, ◌≐◌, ◌≼◌, ◌≺◌, ◌⟹◌, ◌&◌}
 use Rattle.integers.proofs.Lin.{lin}
 
--- the order once more, to be read after + and *: lib.Signed's binds tighter, so that `a +ℤ b ≤ℤ c` is no order there and wants `(a +ℤ b) ≤ℤ c`
-infix 5 ◌≤ᶻ◌
+-- the orders once more, to be read after + and *: lib.Signed's bind tighter, so that `a +ℤ b ≤ℤ c` is no order there and wants `(a +ℤ b) ≤ℤ c`
+infix 5 ◌≤ᶻ◌ ◌<ᶻ◌
 abbrev pub ◌≤ᶻ◌ : ℤ → ℤ → Type 0
 a ≤ᶻ b = a ≤ℤ b
+
+abbrev pub ◌<ᶻ◌ : ℤ → ℤ → Type 0
+a <ᶻ b = a <ℤ b
 
 -- ---- chains
 
 pub ≤_trans : {a b c : ℤ} → a ≤ℤ b → b ≤ℤ c → a ≤ℤ c
 ≤_trans h k = omega (arith, ints)
+
+pub ≤-<-trans : {a b c : ℤ} → a ≤ℤ b → b <ℤ c → a <ℤ c
+≤-<-trans h k = omega (arith, ints)
 
 pub <→≤ : {a b : ℤ} → a <ℤ b → a ≤ℤ b
 <→≤ h = omega (arith, ints)
@@ -35,6 +41,9 @@ pub ≤-antisym : {a b : ℤ} → a ≤ℤ b → b ≤ℤ a → a ≡ b
 
 pub lt_or_ge : (a b : ℤ) → (a <ℤ b) ⊎ (b ≤ℤ a)
 lt_or_ge a b = by_lt_z a b inl inr
+
+pub ≤-total : (a b : ℤ) → (a ≤ℤ b) ⊎ (b ≤ℤ a)
+≤-total a b = ⊎_elim (λ h. inl (<→≤ h)) (λ h. inr h) (lt_or_ge a b)
 
 pub data Cmp (a b : ℤ) : Type 0 where
   is_less : a <ℤ b → Cmp a b
@@ -145,6 +154,14 @@ mul_zero a b e = go (compareℤ a (pos 0))
     go (is_less h) = inr (zero_of_mul b (neg_of h) (lin 0 2 (λ a b. a ⊗ b ≐ # 0 ⟹ ⊝ a ⊗ b ≐ # 0) (omega arith) a b e))
     go (is_same h) = inl h
     go (is_more h) = inr (zero_of_mul b h e)
+
+-- ---- a factor on both sides
+
+pub *-mono-l : {a b : ℤ} (c : ℤ) → pos 0 ≤ℤ c → a ≤ℤ b → (c *ℤ a) ≤ℤ (c *ℤ b)
+*-mono-l {a} {b} c h k = lin 0 3 (λ a b c. # 0 ≼ c ⊗ (b ⊖ a) ⟹ c ⊗ a ≼ c ⊗ b) (omega arith) a b c (mul_nn h (≤→nn k))
+
+pub *-cancel-≤ : {a b : ℤ} (c : ℤ) → pos 0 <ℤ c → (c *ℤ a) ≤ℤ (c *ℤ b) → a ≤ℤ b
+*-cancel-≤ {a} {b} c h k = nn→≤ (nn_of_mul (b -ℤ a) h (lin 0 3 (λ a b c. c ⊗ a ≼ c ⊗ b ⟹ # 0 ≼ c ⊗ (b ⊖ a)) (omega arith) a b c k))
 
 -- ---- bounds
 

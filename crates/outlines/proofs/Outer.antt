@@ -11,11 +11,12 @@ use Rattle.plane.specs.Points.{point, InSpan}
 use Rattle.plane.specs.declared.Point.{Point}
 use Rattle.plane.specs.Members.{All, none, ◌&◌, ◌∈◌}
 use Rattle.plane.specs.Polygons.{Polygon}
-use Rattle.plane.proofs.Lists.{all_of, index_of_all, in_by_index, index_of_in, map_at}
+use Rattle.plane.proofs.Lists.{all_of, in_by_index, index_of_in, map_at}
 use Rattle.turns.specs.Keys.{IsKey, AllKeys, key_at, point_of}
 use Rattle.turns.specs.Reflection.{reflected}
 use Rattle.turns.proofs.Order.{point_injective}
 use Rattle.turns.proofs.Coordinates.{key_at_lem}
+use Rattle.turns.proofs.Listed.{front_listed, each_key}
 use Rattle.orders.specs.Order.{get, Sorted}
 use Rattle.chains.specs.Chains.{turn, Chain, Amid, Under, framed}
 use Rattle.extremes.specs.Inner.{Among, EndsOf}
@@ -51,7 +52,7 @@ module _ {qs : List Point} (kd : Keyed qs) where
   keys_length = sym (length-map keys_of point_of) ∙ ap (λ (l : List Point). length l) kd.points
 
   pub all_keys : AllKeys (get keys_of) (length keys_of)
-  all_keys = record { key = λ i h. index_of_all 0 kd.all i h }
+  all_keys = each_key kd.all
 
   point_at : (i : ℕ) → i < length keys_of → point_of (get keys_of i) ≡ get_or qs i (point (pos 0) (pos 0))
   point_at i h = sym (map_at point_of 0 (point (pos 0) (pos 0)) keys_of i h) ∙ ap (λ (l : List Point). get_or l i (point (pos 0) (pos 0))) kd.points
@@ -79,11 +80,12 @@ module _ {qs : List Point} (kd : Keyed qs) where
       }
 
   -- the polygon of the keys is that of the points
-  pub points_polygon : (vs : List ℕ) (count : ℕ) → Hull keys_of vs count → PolygonKeys qs vs count
-  points_polygon vs count g =
+  pub points_polygon : (vs : List ℕ) (count : ℕ) → count ≤ length vs → Hull keys_of vs count → PolygonKeys qs vs count
+  points_polygon vs count room g =
       record {
         some = g.some;
         few = omega (arith, g.few, keys_length);
+        keys = front_listed vs count room g.listed;
         polygon = subst (λ q. Polygon q (map point_of (take count vs))) kd.points g.polygon;
       }
 
@@ -130,7 +132,7 @@ module _ {qs : List Point} (kd : Keyed qs) {n first last : ℕ} (h : first < las
 pub outer_one : {qs : List Point} (kd : Keyed qs) {first last : ℕ} (out : List ℕ) → 1 ≤ length out → PointEnds qs first last → last ≤ first → get out 0 ≡ first → PolygonKeys qs out 1
 outer_one kd {first} {last} out room e same z =
     let w = among_keys kd e.first_in in
-    points_polygon kd out 1 (made_one (keys_of kd) out first last (omega (arith, w.1)) room (key_ends kd e) same z)
+    points_polygon kd out 1 room (made_one (keys_of kd) out first last (omega (arith, w.1)) room (all_keys kd) (key_ends kd e) same z)
 
 -- ---- the corners of a box list
 

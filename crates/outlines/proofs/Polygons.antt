@@ -9,6 +9,7 @@ use lib.Seq.{length-take-le}
 use Rattle.plane.specs.declared.Point.{Point}
 use Rattle.plane.specs.Polygons.{Polygon}
 use Rattle.turns.specs.Keys.{point_of}
+use Rattle.turns.proofs.Listed.{front_listed}
 use Rattle.hulls.specs.Hulls.{Hull}
 use Rattle.rounds.specs.Boxes.{boxes_of, all_corners}
 use Rattle.rounds.specs.declared.Corner.TheVariants.{SouthWest, SouthEast, NorthEast, NorthWest}
@@ -26,10 +27,11 @@ module _ (qs : List Point) (ks : List ℕ) (n : ℕ) (e : length qs ≡ n) (h : 
   pub front_length : length (take n ks) ≡ n
   front_length = length-take-le n ks h
 
-  pub front_polygon : (vs : List ℕ) (count : ℕ) → Hull (take n ks) vs count → PolygonKeys qs vs count
-  front_polygon vs count g =
+  pub front_polygon : (vs : List ℕ) (count : ℕ) → n ≤ length vs → Hull (take n ks) vs count → PolygonKeys qs vs count
+  front_polygon vs count room g =
       record {
         some = g.some;
         few = omega (arith, g.few, front_length);
+        keys = front_listed vs count (omega (arith, g.few, front_length)) g.listed;
         polygon = subst (λ q. Polygon q (map point_of (take count vs))) (ap (λ m. map point_of (take m ks)) (sym e) ∙ f.points) g.polygon;
       }

@@ -6,9 +6,10 @@ use native.Mathlib.Nat.{le_of_eq}
 use native.Mathlib.Omega.{arith}
 use lib.ListN.{length, take, drop, length-drop, drop_of_length-le}
 use lib.Seq.{length-take-le, take-take, take_at, drop_at}
+use Rattle.plane.specs.Members.{All}
 use Rattle.plane.specs.declared.Point.{Point}
 use Rattle.plane.specs.Polygons.{Polygon}
-use Rattle.turns.specs.Keys.{point_of}
+use Rattle.turns.specs.Keys.{IsKey, point_of}
 use Rattle.rounds.specs.Boxes.{corners_of, all_corners}
 use Rattle.rounds.specs.declared.Box.{Box}
 use Rattle.rounds.specs.declared.Corner.{Corner}
@@ -41,7 +42,7 @@ part_of (suc a) n (suc m) (x ∷ l) h = part_of a n m l (omega arith)
 -- a polygon of n vertices from a on, among the first m keys, which are kept
 still : {qs : List Point} (x y : List ℕ) (m a n : ℕ) → a + n ≤ m → take m y ≡ take m x → PolygonKeys qs (drop a x) n → PolygonKeys qs (drop a y) n
 still {qs} x y m a n h e p =
-    record { some = p.some; few = p.few; polygon = subst (λ l. Polygon qs (map point_of l)) same p.polygon }
+    record { some = p.some; few = p.few; keys = subst (All IsKey) same p.keys; polygon = subst (λ l. Polygon qs (map point_of l)) same p.polygon }
   where
     same : take n (drop a x) ≡ take n (drop a y)
     same = sym (part_of a n m x h) ∙ ap (λ l. take n (drop a l)) (sym e) ∙ part_of a n m y h

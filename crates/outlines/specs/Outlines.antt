@@ -1,13 +1,15 @@
 -- The polygon of some points as the keys of its vertices, and polygons one behind another. Definitions only.
 use Rattle.std.specs.Prelude.{◌≡◌, List, map, ℕ, ◌+◌, ◌≤◌, length, take, drop}
+use Rattle.plane.specs.Members.{All}
 use Rattle.plane.specs.declared.Point.{Point}
 use Rattle.plane.specs.Polygons.{Polygon}
-use Rattle.turns.specs.Keys.{point_of}
+use Rattle.turns.specs.Keys.{IsKey, point_of}
 
--- the points of the first count vertices are the polygon of the points qs (docs/SCOPE.md 3.3)
+-- the first count vertices are keys, and their points are the polygon of the points qs (docs/SCOPE.md 3.3)
 pub record PolygonKeys (qs : List Point) (vertices : List ℕ) (count : ℕ) : Type 0 where
   pub some : 1 ≤ count
   pub few : count ≤ length qs
+  pub keys : All IsKey (take count vertices)
   pub polygon : Polygon qs (map point_of (take count vertices))
 
 -- two slices are scratch for n keys

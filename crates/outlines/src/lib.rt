@@ -10,9 +10,10 @@ ghost use Rattle.outlines.specs.Outlines.{ScratchFor, OuterRoom, PolygonKeys, Po
 ghost use Rattle.outlines.specs.RoundPolygons.{RoundPolygons};
 
 use boxes::Boxes;
+use codes::Coded;
 use extremes::Ends;
 use rounds::Corner;
-use turns::Key;
+use turns::Keys;
 
 // Scratch for the keys of two corners of each of the most boxes that a round has, and a little more, so that each chain
 // ends in it. It is lent as two slices: a struct of them would have to promise at each call that their lengths stay.
@@ -35,9 +36,9 @@ pub struct RoundCounts {
 pub fn corner_outline(
     boxes: Boxes,
     corner: Corner,
-    vertices: &mut [Key],
-    keys: &mut [Key],
-    mirror: &mut [Key],
+    vertices: &mut [u32],
+    keys: &mut [u32],
+    mirror: &mut [u32],
 ) -> usize
     requires room { length boxes.numbers.now / 4 ≤ length vertices.old }
     requires scratch_for { ScratchFor (length boxes.numbers.now / 4) keys.old mirror.old }
@@ -49,7 +50,7 @@ pub fn corner_outline(
 }
 
 // Writes the keys of all four corners of all boxes to the front of keys.
-fn put_all_corners(boxes: Boxes, keys: &mut [Key])
+fn put_all_corners(boxes: Boxes, keys: &mut [u32])
     requires { length boxes.numbers.now ≤ length keys.old }
     ensures { KeysOf (all_corners (boxes_of boxes.entry.numbers.now)) keys.new }
 {
@@ -67,9 +68,9 @@ fn put_all_corners(boxes: Boxes, keys: &mut [Key])
 // closure with its contract: the first of vertices, as many as are returned. What the scratch holds is lost.
 pub fn outer_outline(
     boxes: Boxes,
-    vertices: &mut [Key],
-    keys: &mut [Key],
-    mirror: &mut [Key],
+    vertices: &mut [u32],
+    keys: &mut [u32],
+    mirror: &mut [u32],
 ) -> usize
     requires room { length boxes.numbers.now ≤ length vertices.old }
     requires scratch_for { ScratchFor (length boxes.numbers.now) keys.old mirror.old }
@@ -86,9 +87,9 @@ pub fn outer_outline(
 fn outer_chains(
     boxes: Boxes,
     ends: &Ends,
-    vertices: &mut [Key],
-    keys: &mut [Key],
-    list: &mut [Key],
+    vertices: &mut [u32],
+    keys: &mut [u32],
+    list: &mut [u32],
 ) -> usize
     requires point_ends { PointEnds (all_corners (boxes_of boxes.numbers.now)) ends.now.first ends.now.last
         × (ends.now.first < ends.now.last) }
@@ -96,10 +97,11 @@ fn outer_chains(
     ensures { PolygonKeys (all_corners (boxes_of boxes.entry.numbers.now)) vertices.new result }
 {
     let u = corner_lists::upper_keys(boxes, ends, list, keys, vertices);
-    let ku = chains::upper_chain(ends, &list[..u], vertices);
+    let ku = chains::upper_chain(ends, Keys { codes: &list[..u] }, vertices);
     let v = corner_lists::lower_keys(boxes, ends, list, keys, &mut vertices[ku..]);
-    let kl = chains::upper_chain(&ends.reflected(), &list[..v], keys);
-    hulls::append_reflected(&keys[..kl - 1], vertices, ku - 1);
+    let kl = chains::upper_chain(&ends.reflected(), Keys { codes: &list[..v] }, keys);
+    let chain = &keys[..kl - 1];
+    hulls::append_reflected(Keys { codes: chain }, vertices, ku - 1);
     ku - 1 + (kl - 1)
 }
 
@@ -107,16 +109,16 @@ fn outer_chains(
 // (`hulls::polygon` begins alike: one function for both would take the chains as a closure, and be no plainer.)
 pub fn quartered_outline(
     boxes: Boxes,
-    vertices: &mut [Key],
-    keys: &mut [Key],
-    list: &mut [Key],
+    vertices: &mut [u32],
+    keys: &mut [u32],
+    list: &mut [u32],
 ) -> usize
     requires outer_room { OuterRoom (length boxes.numbers.now / 4) vertices.old keys.old list.old }
     ensures { PolygonKeys (all_corners (boxes_of boxes.entry.numbers.now)) vertices.new result }
 {
     let ends = corner_lists::find_corner_ends(boxes, keys);
     if ends.last <= ends.first {
-        vertices[0] = ends.first;
+        vertices[0] = ends.first.code();
         return 1;
     }
     outer_chains(boxes, &ends, vertices, keys, list)
@@ -127,9 +129,9 @@ fn append_outline(
     boxes: Boxes,
     corner: Corner,
     from: usize,
-    vertices: &mut [Key],
-    keys: &mut [Key],
-    mirror: &mut [Key],
+    vertices: &mut [u32],
+    keys: &mut [u32],
+    mirror: &mut [u32],
 ) -> usize
     requires room { from + length boxes.numbers.now / 4 ≤ length vertices.old }
     requires scratch_for { ScratchFor (length boxes.numbers.now / 4) keys.old mirror.old }
@@ -148,9 +150,9 @@ fn append_two_outlines(
     first: Corner,
     second: Corner,
     from: usize,
-    vertices: &mut [Key],
-    keys: &mut [Key],
-    mirror: &mut [Key],
+    vertices: &mut [u32],
+    keys: &mut [u32],
+    mirror: &mut [u32],
 ) -> (usize, usize)
     requires room { from + 2 * (length boxes.numbers.now / 4) ≤ length vertices.old }
     requires scratch_for { ScratchFor (length boxes.numbers.now / 4) keys.old mirror.old }
@@ -165,7 +167,7 @@ fn append_two_outlines(
 }
 
 // The outer polygon: by quarters, but for one box, whose corners have room where the quarters' keys may have none.
-fn first_outline(boxes: Boxes, vertices: &mut [Key], keys: &mut [Key], mirror: &mut [Key]) -> usize
+fn first_outline(boxes: Boxes, vertices: &mut [u32], keys: &mut [u32], mirror: &mut [u32]) -> usize
     requires room { 8 * (length boxes.numbers.now / 4) ≤ length vertices.old }
     requires scratch_for { ScratchFor
         (min (length boxes.numbers.now) (length boxes.numbers.now / 4 + length boxes.numbers.now / 4 + 3))
@@ -183,9 +185,9 @@ fn first_outline(boxes: Boxes, vertices: &mut [Key], keys: &mut [Key], mirror: &
 #[tactic(auto, using(corners::proofs::Places::corners_length, crate::proofs::Polygons::all_length))]
 pub fn round_outlines(
     boxes: Boxes,
-    vertices: &mut [Key],
-    keys: &mut [Key],
-    mirror: &mut [Key],
+    vertices: &mut [u32],
+    keys: &mut [u32],
+    mirror: &mut [u32],
 ) -> RoundCounts
     requires room { 8 * (length boxes.numbers.now / 4) ≤ length vertices.old }
     requires scratch_for { ScratchFor

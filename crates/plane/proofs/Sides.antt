@@ -11,10 +11,11 @@ use Rattle.integers.proofs.Cert.{cert, hyp, ◌⊞◌, ◌∵◌}
 use Rattle.plane.specs.Points.{signed_area, outward_east, outward_north}
 use Rattle.plane.specs.declared.Point.{Point}
 use Rattle.plane.specs.Members.{All}
-use Rattle.plane.specs.Vectors.{from, along, Supported, Separated}
+use Rattle.plane.specs.Vectors.{from, along, Supported, Balanced, Separated}
 use Rattle.plane.specs.Polygons.{AllRight}
 use Rattle.plane.proofs.Twins.{pt, fromᴱ, alongᴱ, signed_areaᴱ}
 use Rattle.plane.proofs.Lists.{all_imp, all_map}
+use Rattle.plane.proofs.Combos.{separated_not_balanced}
 
 -- the twin of `dot_product`
 abbrev pub dot_productᴱ : PtE → PtE → PtE → E
@@ -45,3 +46,6 @@ side_separated v w p h hp =
       behind = all_map (from 1 p) (all_imp (λ q k. cert 4 0 (λ v w p q.
           signed_areaᴱ v w q ≼ # 0 ⟹ # 0 ≺ signed_areaᴱ v w p ⟹ alongᴱ (⊝ (w.1 ⊖ v.1)) (w.0 ⊖ v.0) (fromᴱ p q) ≺ # 0 ∵ hyp 0 ⊞ hyp 1) tt (pt v) (pt w) (pt p) (pt q) k hp) h);
     }
+
+pub side_not_balanced : {qs : List Point} (v w p : Point) → AllRight qs v w → pos 0 <ℤ signed_area v w p → Balanced (map (from 1 p) qs) → ⊥
+side_not_balanced v w p h hp = separated_not_balanced (side_separated v w p h hp)

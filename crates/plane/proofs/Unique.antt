@@ -2,10 +2,10 @@
 -- others right of l → x, or on it, and is extreme: two such would be in line with l. Assumes nothing.
 use Prim.Native.Nat.{◌≤◌}
 use mathlib.Core.Path.{◌≡◌, refl, sym, ◌∙◌, ap, ap₂, subst}
-use mathlib.Core.Logic.{◌⊎◌, inl, inr}
-use mathlib.Core.List.{List, [], ◌∷◌}
+use mathlib.Core.Logic.{◌⊎◌, inl, inr, ⊎_elim}
+use mathlib.Core.List.{List, [], ◌∷◌, ◌++◌}
 use native.Mathlib.Omega.{arith}
-use lib.ListN.{length}
+use lib.ListN.{length, length-append}
 use lib.Signed.{◌≤ℤ◌, ◌<ℤ◌}
 use Rattle.integers.proofs.Expr.{#◌, ◌≼◌, ◌≺◌, ◌≐◌, ◌⟹◌, bot}
 use Rattle.integers.proofs.Lin.{lin}
@@ -16,7 +16,7 @@ use Rattle.plane.specs.declared.Point.{Point}
 use Rattle.plane.specs.Members.{All, none, ◌&◌, ◌∈◌, here, there}
 use Rattle.plane.specs.Polygons.{AllRight, Extreme, Distinct, Steps, Clockwise, Polygon}
 use Rattle.plane.proofs.Twins.{signed_areaᴱ, pt}
-use Rattle.plane.proofs.Lists.{first, rest, all_at, all_of}
+use Rattle.plane.proofs.Lists.{first, rest, all_at, all_of, all_append, in_append}
 use Rattle.plane.proofs.Sides.{point_ext}
 use Rattle.plane.proofs.PolygonFacts.{same_point}
 use Rattle.plane.proofs.Reading.{not_in_line}
@@ -123,3 +123,35 @@ west_unique {qs} f g vs ws P Q hf hg = finish (start (Q.every_extreme f (first P
 
     finish : f ≡ g → (f ∷ vs) ≡ (g ∷ ws)
     finish e = ap₂ (λ x l. x ∷ l) e (polygon_unique f vs ws P (subst (λ x. Polygon qs (x ∷ ws)) (sym e) Q))
+
+-- ---- the start is open: the first vertex moved to the end
+
+in_rotated : {x : Point} (f : Point) (vs : List Point) → x ∈ (f ∷ vs) → x ∈ (vs ++ (f ∷ []))
+in_rotated f [] m = m
+in_rotated f (v ∷ vs) (here e) = there (in_rotated f vs (here e))
+in_rotated f (v ∷ vs) (there (here e)) = here e
+in_rotated f (v ∷ vs) (there (there m)) = there (in_rotated f vs (there m))
+
+distinct_rotated : (f : Point) (vs : List Point) → Distinct (f ∷ vs) → Distinct (vs ++ (f ∷ []))
+distinct_rotated f [] d = d
+distinct_rotated f (v ∷ vs) d = (
+  λ m. ⊎_elim d.1.0 (λ k. elim k [ here e ↦ d.0 (here (sym e)) | there m ↦ elim m [ ] ]) (in_append vs (f ∷ []) m),
+  distinct_rotated f vs (λ m. d.0 (there m), d.1.1),
+)
+
+steps_rotated : (R : Point → Point → Type 0) (f g v : Point) (vs : List Point) → R f g → Steps R f (v ∷ vs) → Steps R g ((v ∷ vs) ++ (f ∷ []))
+steps_rotated R f g v [] h s = (s, h)
+steps_rotated R f g v (w ∷ vs) h s = (s.0, steps_rotated R f g w vs h s.1)
+
+pub polygon_rotated : {qs : List Point} (f : Point) (vs : List Point) → Polygon qs (f ∷ vs) → Polygon qs (vs ++ (f ∷ []))
+polygon_rotated {qs} f vs P =
+    record {
+      only_extreme = all_append (rest P.only_extreme) (first P.only_extreme & none);
+      every_extreme = λ p x. in_rotated f vs (P.every_extreme p x);
+      once_each = distinct_rotated f vs P.once_each;
+      clockwise = λ n. sides vs (P.clockwise (omega (arith, simp length-append at n)));
+    }
+  where
+    sides : (vs : List Point) → Clockwise qs (f ∷ vs) → Clockwise qs (vs ++ (f ∷ []))
+    sides [] s = s
+    sides (v ∷ vs) s = steps_rotated (AllRight qs) f v v vs s.0 s.1

@@ -17,7 +17,6 @@ use outlines::MOST_KEYS;
 use plane::Point;
 use plug_words::RoundShapes;
 use rounds::{Refusal, Word};
-use turns::Key;
 use words::Polygons;
 
 // The most vertices of the five polygons of a round.
@@ -73,19 +72,18 @@ pub fn write_lines(shapes: RoundShapes, before: usize, plugs: &[i32], out: &mut 
 }
 
 // The polygons of accepted boxes, made once for all plugs, at the front of vertices.
-#[tactic(auto, using(turns::proofs::Parts::least_key))]
-fn make_polygons<'a>(boxes: Boxes, vertices: &'a mut [Key]) -> Polygons<'a>
+fn make_polygons<'a>(boxes: Boxes, vertices: &'a mut [u32]) -> Polygons<'a>
     requires { 8 * (length boxes.numbers.now / 4) ≤ length vertices.old }
     ensures { RoundPolygons (boxes_of boxes.entry.numbers.now) result.vertices.now result.counts }
 {
-    let mut keys = [Key::LEAST; MOST_KEYS];
-    let mut mirror = [Key::LEAST; MOST_KEYS];
+    let mut keys = [0u32; MOST_KEYS];
+    let mut mirror = [0u32; MOST_KEYS];
     let counts = outlines::round_outlines(boxes, vertices, &mut keys, &mut mirror);
     Polygons { vertices, counts }
 }
 
 // The polygons of accepted boxes, made once for so many plugs, with a box in which every plug is inside.
-pub fn make_shapes<'a>(boxes: Boxes, plugs: usize, vertices: &'a mut [Key]) -> RoundShapes<'a>
+pub fn make_shapes<'a>(boxes: Boxes, plugs: usize, vertices: &'a mut [u32]) -> RoundShapes<'a>
     requires { 8 * (length boxes.numbers.now / 4) ≤ length vertices.old }
     ensures { ShapesOf (boxes_of boxes.entry.numbers.now) result }
 {
@@ -97,14 +95,13 @@ pub fn make_shapes<'a>(boxes: Boxes, plugs: usize, vertices: &'a mut [Key]) -> R
 }
 
 // Writes the line of each plug. The polygons of the boxes are made once.
-#[tactic(auto, using(turns::proofs::Parts::least_key))]
 pub fn write_plug_lines(boxes: Boxes, plugs: &[i32], out: &mut [u8]) -> usize
     requires { LineRoom 0 plugs.now out.old }
     ensures { Wrote
         (plug_lines 1 (boxes_of boxes.entry.numbers.now) (plugs_of plugs.now))
         out.old result out.new }
 {
-    let mut vertices = [Key::LEAST; MOST_VERTICES];
+    let mut vertices = [0u32; MOST_VERTICES];
     let shapes = make_shapes(boxes, plugs.len() / 2, &mut vertices);
     write_lines(shapes, 0, plugs, out)
 }

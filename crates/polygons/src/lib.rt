@@ -11,7 +11,7 @@ ghost use Rattle.polygons.specs.Written.{PolygonWritten, TwoWritten, CornersWrit
 use boxes::Boxes;
 use outlines::MOST_KEYS;
 use rounds::{Corner, MOST_BOXES};
-use turns::Key;
+use turns::Keys;
 
 // Scratch has one of three sizes, so that few boxes zero little of it: for these many boxes, for these, and for the
 // most that a round has.
@@ -45,9 +45,9 @@ pub struct VertexCounts {
 fn write_outer_in(
     boxes: Boxes,
     answer: &mut [i32],
-    vertices: &mut [Key],
-    keys: &mut [Key],
-    list: &mut [Key],
+    vertices: &mut [u32],
+    keys: &mut [u32],
+    list: &mut [u32],
 ) -> usize
     requires answer_room { length boxes.numbers.now * 2 ≤ length answer.old }
     requires outer_room { OuterRoom (length boxes.numbers.now / 4) vertices.old keys.old list.old }
@@ -55,12 +55,16 @@ fn write_outer_in(
         (all_corners (boxes_of boxes.entry.numbers.now)) 0 answer.old result answer.new }
 {
     let count = outlines::quartered_outline(boxes, vertices, keys, list);
-    listings::write_vertices(&vertices[..count], answer);
+    listings::write_vertices(
+        Keys {
+            codes: &vertices[..count],
+        },
+        answer,
+    );
     count
 }
 
 // Writes the outer polygon over the front of answer, in scratch of these sizes.
-#[tactic(auto, using(turns::proofs::Parts::least_key))]
 fn write_outer_sized<const VERTICES: usize, const KEYS: usize>(
     boxes: Boxes,
     answer: &mut [i32],
@@ -71,9 +75,9 @@ fn write_outer_sized<const VERTICES: usize, const KEYS: usize>(
     ensures { PolygonWritten
         (all_corners (boxes_of boxes.entry.numbers.now)) 0 answer.old result answer.new }
 {
-    let mut vertices = [Key::LEAST; VERTICES];
-    let mut keys = [Key::LEAST; KEYS];
-    let mut list = [Key::LEAST; KEYS];
+    let mut vertices = [0u32; VERTICES];
+    let mut keys = [0u32; KEYS];
+    let mut list = [0u32; KEYS];
     write_outer_in(boxes, answer, &mut vertices, &mut keys, &mut list)
 }
 
@@ -96,9 +100,9 @@ pub fn write_outer(boxes: Boxes, answer: &mut [i32]) -> usize
 // Scratch for the corner polygons of so many boxes. What it holds is lost at each call.
 #[derive(Drop)]
 struct Scratch<const SIZE: usize> {
-    vertices: [Key; SIZE],
-    keys: [Key; SIZE],
-    mirror: [Key; SIZE],
+    vertices: [u32; SIZE],
+    keys: [u32; SIZE],
+    mirror: [u32; SIZE],
 }
 
 impl<const SIZE: usize> Scratch<SIZE> {
@@ -118,7 +122,12 @@ impl<const SIZE: usize> Scratch<SIZE> {
             &mut self.keys,
             &mut self.mirror,
         );
-        listings::write_vertices(&self.vertices[..count], answer);
+        listings::write_vertices(
+            Keys {
+                codes: &self.vertices[..count],
+            },
+            answer,
+        );
         count
     }
 
@@ -165,16 +174,16 @@ impl<const SIZE: usize> Scratch<SIZE> {
 }
 
 // Writes the corner polygons one behind another over the front of answer, in scratch of that size.
-#[tactic(auto, using(corners::proofs::Places::corners_length, turns::proofs::Parts::least_key))]
+#[tactic(auto, using(corners::proofs::Places::corners_length))]
 fn write_corners_sized<const SIZE: usize>(boxes: Boxes, answer: &mut [i32]) -> VertexCounts
     requires size { (length boxes.numbers.now / 4 ≤ SIZE) × (SIZE < 2 ^ 32) }
     requires answer_room { needed boxes.numbers.now ≤ length answer.old }
     ensures { CornersWritten (boxes_of boxes.entry.numbers.now) answer.old result answer.new }
 {
     let mut scratch = Scratch::<SIZE> {
-        vertices: [Key::LEAST; SIZE],
-        keys: [Key::LEAST; SIZE],
-        mirror: [Key::LEAST; SIZE],
+        vertices: [0; SIZE],
+        keys: [0; SIZE],
+        mirror: [0; SIZE],
     };
     let (southwest, southeast) = scratch.append_two_corners(
         boxes,

@@ -14,7 +14,6 @@ use rounds::MOST_INPUT;
 use std::io;
 use std::io::{Read, Write};
 use text_parts::PIECE_LENGTH;
-use turns::Key;
 
 // One byte more than an input may have.
 const READ_LENGTH: usize = MOST_INPUT + 1;
@@ -40,7 +39,7 @@ fn read_input(source: &mut impl Read, buffer: &mut [u8]) -> (usize, io::Result<(
 fn print_text<W: Write>(
     output: &mut W,
     input: &[u8],
-    vertices: &mut [Key],
+    vertices: &mut [u32],
     text: &mut [u8],
 ) -> io::Result<()>
     requires { PrintingRoom vertices.old text.old }
@@ -58,9 +57,8 @@ fn print_text<W: Write>(
 }
 
 // Prints the text of an input, and tells a write that fails.
-#[tactic(auto, using(turns::proofs::Parts::least_key))]
 fn print_input(rt: &HostRuntime, input: &[u8]) {
-    let mut vertices = [Key::LEAST; MOST_VERTICES];
+    let mut vertices = [0u32; MOST_VERTICES];
     let mut text = [0u8; PIECE_LENGTH];
     if print_text(&mut rt.stdout(), input, &mut vertices, &mut text).is_err() {
         let _ = eprintln!(rt; "print_round: writing failed");

@@ -10,7 +10,6 @@ ghost use Rattle.printing.specs.Steps.{TextRoom};
 
 use plug_lines::MOST_VERTICES;
 use text_parts::LinesLeft;
-use turns::Key;
 
 // The length of the text's buffer, in which the text of every input has room.
 pub const TEXT_LENGTH: usize = 131072;
@@ -32,7 +31,7 @@ fn write_all_lines(first: Option<LinesLeft>, out: &mut [u8]) -> usize
 }
 
 // Writes the whole text of an input, and returns its length.
-fn write_whole(file: &[u8], vertices: &mut [Key], text: &mut [u8]) -> usize
+fn write_whole(file: &[u8], vertices: &mut [u32], text: &mut [u8]) -> usize
     requires { TextRoom vertices.old text.old }
     ensures { Wrote (text_of file.now) text.old result text.new }
 {
@@ -42,10 +41,9 @@ fn write_whole(file: &[u8], vertices: &mut [Key], text: &mut [u8]) -> usize
 }
 
 // Writes what the printing program prints for an input, and returns its length.
-#[tactic(auto, using(turns::proofs::Parts::least_key))]
 pub fn write_text(file: &[u8], text: &mut [u8; TEXT_LENGTH]) -> usize
     ensures { Wrote (text_of file.now) text.old result text.new }
 {
-    let mut vertices = [Key::LEAST; MOST_VERTICES];
+    let mut vertices = [0u32; MOST_VERTICES];
     write_whole(file, &mut vertices, text)
 }

@@ -10,9 +10,10 @@ ghost use Rattle.lines.specs.Lines.{LineOf};
 ghost use Rattle.quarters.specs.Quarters.{FurtherNorth, Northmost, Outside, Quarter, SortedQuarter};
 ghost use Rattle.quarters.specs.Quarters.{PeakPut, UpperInput, UpperList};
 
+use codes::Coded;
 use extremes::Ends;
 use lines::Line;
-use turns::Key;
+use turns::{Key, Keys};
 
 // The way from one key to another, and the line that it lies on.
 #[derive(Clone, Copy)]
@@ -49,8 +50,8 @@ impl Way {
     }
 }
 
-// The one of two keys that is further north, or the first. (No `max_by_key` over the list: a proof
-// would have to rule out its `None`.)
+// The one of two keys that is further north, or the first. (No `max_by_key` over the list: a proof would have to take
+// `Northmost` from what is promised of an `Option` and an iterator, and that is no plainer.)
 fn further_north(a: Key, b: Key) -> Key
     ensures { FurtherNorth a b result }
 {
@@ -61,29 +62,30 @@ fn further_north(a: Key, b: Key) -> Key
 }
 
 // A northmost key of a list.
-fn northmost(keys: &[Key]) -> Key
-    requires { 1 ≤ length keys.now }
-    ensures { Northmost keys.now result }
+fn northmost(keys: Keys) -> Key
+    requires { 1 ≤ length keys.codes.now }
+    ensures { Northmost keys.entry.codes.now result }
 {
-    let mut peak = keys[0];
-    for &key in keys {
-        peak = further_north(peak, key);
+    let mut peak = keys.at(0);
+    for i in 1..keys.codes.len() {
+        peak = further_north(peak, keys.at(i));
     }
     peak
 }
 
 // Writes the keys of a list that are outside a way to the front of out, and counts them. (Not every key is written, so
 // that no iterator over out goes along.)
-fn keep_outside(keys: &[Key], way: Way, out: &mut [Key]) -> usize
-    requires { length keys.now ≤ length out.old }
-    ensures { Quarter keys.now way.from way.to out.new result }
+fn keep_outside(keys: Keys, way: Way, out: &mut [u32]) -> usize
+    requires { length keys.codes.now ≤ length out.old }
+    ensures { Quarter keys.entry.codes.now way.from way.to out.new result }
 {
     // A copy of its own, which the loop keeps in registers.
     let own = way;
     let mut count: usize = 0;
-    for &key in keys {
+    for i in 0..keys.codes.len() {
+        let key = keys.at(i);
         if own.is_outside(key) {
-            out[count] = key;
+            out[count] = key.code();
             count += 1;
         }
     }
@@ -92,9 +94,9 @@ fn keep_outside(keys: &[Key], way: Way, out: &mut [Key]) -> usize
 
 // The same in order. What scratch holds is lost. A call of its own for each half: inlined, the loop spills registers.
 #[inline(never)]
-fn sort_outside(keys: &[Key], way: Way, out: &mut [Key], scratch: &mut [Key]) -> usize
-    requires { (length keys.now ≤ length out.old) × (length keys.now ≤ length scratch.old) }
-    ensures { SortedQuarter keys.now way.from way.to out.new result }
+fn sort_outside(keys: Keys, way: Way, out: &mut [u32], scratch: &mut [u32]) -> usize
+    requires { (length keys.codes.now ≤ length out.old) × (length keys.codes.now ≤ length scratch.old) }
+    ensures { SortedQuarter keys.entry.codes.now way.from way.to out.new result }
 {
     let count = keep_outside(keys, way, out);
     sorting::sort_keys(&mut out[..count], scratch);
@@ -102,7 +104,7 @@ fn sort_outside(keys: &[Key], way: Way, out: &mut [Key], scratch: &mut [Key]) ->
 }
 
 // Writes a key behind the first `count` of out, if it is strictly between the ends, and counts it.
-fn put_peak(ends: &Ends, peak: Key, out: &mut [Key], count: usize) -> usize
+fn put_peak(ends: &Ends, peak: Key, out: &mut [u32], count: usize) -> usize
     requires { count < length out.old }
     ensures { PeakPut ends.now.first peak ends.now.last out.old count out.new result }
 {
@@ -112,21 +114,21 @@ fn put_peak(ends: &Ends, peak: Key, out: &mut [Key], count: usize) -> usize
     if ends.last <= peak {
         return count;
     }
-    out[count] = peak;
+    out[count] = peak.code();
     count + 1
 }
 
 // The keys for the upper chain of boxes' corners between their ends, in order, at the front of out: of the corners that
 // count before a northmost one of them, and of those that count behind it. What scratch holds is lost.
 pub fn upper_list(
-    before: &[Key],
-    behind: &[Key],
+    before: Keys,
+    behind: Keys,
     ends: &Ends,
-    out: &mut [Key],
-    scratch: &mut [Key],
+    out: &mut [u32],
+    scratch: &mut [u32],
 ) -> usize
-    requires { UpperInput before.now behind.now ends.now.first ends.now.last out.old scratch.old }
-    ensures { UpperList before.now behind.now ends.now.first ends.now.last out.new result }
+    requires { UpperInput before.codes.now behind.codes.now ends.now.first ends.now.last out.old scratch.old }
+    ensures { UpperList before.entry.codes.now behind.entry.codes.now ends.now.first ends.now.last out.new result }
 {
     let peak = northmost(before);
     let count = sort_outside(before, Way::new(ends.first, peak), out, scratch);

@@ -1,5 +1,5 @@
 -- A list that no cause of the table turns back is one that polygons and verdicts are worked out of. Assumes nothing.
-use Prim.Native.Nat.{ℕ, ◌+◌, ◌/◌, ◌%◌}
+use Prim.Native.Nat.{ℕ, ◌+◌, ◌/◌, ◌%◌, ◌≤◌}
 use mathlib.Core.Bool.{Bool, true, false, not, ◌||◌}
 use mathlib.Core.Path.{◌≡◌, refl}
 use mathlib.Core.List.{List, [], ◌∷◌}
@@ -87,6 +87,14 @@ accepted l e =
       ordered = each.0;
       in_span = each.1;
     }
+
+-- so there is a box
+pub accepted_some : (l : List ℤ) → 4 ≤ length l → (b : Box) × (bs : List Box) × (boxes_of l ≡ (b ∷ bs))
+accepted_some [] h = absurd (omega arith)
+accepted_some (w ∷ []) h = absurd (omega arith)
+accepted_some (w ∷ s ∷ []) h = absurd (omega arith)
+accepted_some (w ∷ s ∷ x ∷ []) h = absurd (omega arith)
+accepted_some (w ∷ s ∷ x ∷ n ∷ l) h = (_, boxes_of l, refl)
 
 -- an accepted plug is in the span
 pub plug_accepted : (k : ℕ) (p : Point) → plug_fault k p ≡ Fault.none → InSpan p

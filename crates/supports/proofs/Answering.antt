@@ -88,6 +88,9 @@ module _ (k : ℕ) (corner : Corner) where
     corner_supports : (bs : List Box) → All BoxInSpan bs → SupportAt bs p corner (support_of_corner k corner bs)
     corner_supports bs h = (cone_supports (view_of k corner bs).cone).says bs (view_says k bs h corner).of_cone
 
+    pub corner_found : (bs : List Box) → All BoxInSpan bs → {r : Option Direction} → r ≡ support_of_corner k corner bs → SupportAt bs p corner r
+    corner_found bs h e = subst (λ r. SupportAt bs p corner r) (sym e) (corner_supports bs h)
+
     -- so does what was found
     pub cone_found : (cone : Cone) {r : Option Direction} → r ≡ support_of_cone k cone corner → SupportBy p cone corner r
     cone_found cone e = subst (SupportBy p cone corner) (sym e) (cone_supports cone)
@@ -140,6 +143,10 @@ support_says k hk bs h view o =
     support_first bs (point_of k) (support_of_cone k view.cone SouthWest) (support_of_corner k SouthEast bs) (support_of_corner k NorthEast bs) (support_of_corner k NorthWest bs)
     ((cone_supports k SouthWest hk view.cone).says bs o.of_cone)
     (corner_supports k SouthEast hk bs h) (corner_supports k NorthEast hk bs h) (corner_supports k NorthWest hk bs h)
+
+pub support_found : (k : ℕ) → IsKey k → (bs : List Box) → All BoxInSpan bs → (view : View) → CornerViewSays bs SouthWest (point_of k) view → {r : Option Direction}
+    → r ≡ support_of k bs view → SupportSays bs (point_of k) r
+support_found k hk bs h view o e = subst (λ r. SupportSays bs (point_of k) r) (sym e) (support_says k hk bs h view o)
 
 -- none gives a direction
 all_none : (sw se ne nw : Option Direction) → None ≡ option_or sw (option_or se (option_or ne nw)) → (None ≡ sw) × (None ≡ se) × (None ≡ ne) × (None ≡ nw)

@@ -10,7 +10,7 @@ ghost use Rattle.plug_words.specs.Plugs.{WordBy, Sure};
 use extremes::Far;
 use plane::Point;
 use rounds::{Box, Corner, Word};
-use turns::Key;
+use turns::{Key, Keys};
 use words::Polygons;
 
 // For fewer plugs no box is sought: to find one takes as long as a few of them do, as measured.
@@ -18,10 +18,10 @@ const FEW_PLUGS: usize = 32;
 
 // A key that lies as far as any in the direction of the key `toward`; the datum's, if there is none. Which key it is
 // decides how large the box becomes, and is not promised.
-fn farthest_key(keys: &[Key], toward: Key) -> Key {
+fn farthest_key(keys: Keys, toward: Key) -> Key {
     let datum = Key::new(Point { east: 0, north: 0 });
-    keys.iter()
-        .copied()
+    (0..keys.codes.len())
+        .map(|k| keys.at(k))
         .max_by_key(|key| turns::dot_product(datum, toward, *key))
         .unwrap_or(datum)
 }
@@ -51,7 +51,7 @@ fn find_far(polygons: Polygons) -> Far {
     }
 }
 
-// The largest box that does not reach as far as the four keys.
+// The largest box that does not reach as far as the four keys: closed and in metres, unlike extremes::between_far.
 fn between(far: Far) -> Box {
     Box {
         west: far.nw.east().max(far.sw.east()) + 1,

@@ -15,7 +15,6 @@ mod lines_left;
 
 pub use lines_left::{LinesLeft, Piece};
 use rounds::{Cause, MOST_BOXES, MOST_INPUT, MOST_NUMBERS, Refusal};
-use turns::Key;
 
 // The length of a buffer in which every opening has room, and the lines of every piece.
 pub const PIECE_LENGTH: usize = 4096;
@@ -49,7 +48,7 @@ fn write_counts(boxes: usize, plugs: usize, out: &mut [u8]) -> usize
 // they are read.
 fn open_round<'a>(
     file: &'a [u8],
-    vertices: &'a mut [Key],
+    vertices: &'a mut [u32],
     out: &mut [u8],
 ) -> Result<Opening<'a>, Refusal>
     requires { OpeningRoom vertices.old out.old }
@@ -79,7 +78,7 @@ fn open_round<'a>(
 }
 
 // The opening of the text of an input. The polygons of its round are made once, and stand in vertices.
-pub fn open_text<'a>(file: &'a [u8], vertices: &'a mut [Key], out: &mut [u8]) -> Opening<'a>
+pub fn open_text<'a>(file: &'a [u8], vertices: &'a mut [u32], out: &mut [u8]) -> Opening<'a>
     requires { OpeningRoom vertices.old out.old }
     ensures { Opened file.now out.old result out.new }
 {

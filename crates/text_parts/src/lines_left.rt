@@ -18,10 +18,10 @@ const PIECE_NUMBERS: usize = 512;
 #[derive(Clone, Copy)]
 pub struct LinesLeft<'a> {
     file: &'a [u8],
-    shapes: RoundShapes<'a>,
-    at: usize,
-    done: usize,
-    count: usize,
+    pub shapes: RoundShapes<'a>,
+    pub at: usize,
+    pub done: usize,
+    pub count: usize,
     ghost some: { 1 ≤ count },
     ghost waiting: { Waiting file.now shapes at done count } by { Prim.hlevel (props, ⊎_set, All-prop) },
 }

@@ -21,7 +21,10 @@ pub fn write_bytes(bytes: &[u8], out: &mut [u8]) -> usize
     requires { length bytes.now ≤ length out.old }
     ensures { Wrote bytes.now out.old result out.new }
 {
-    out[..bytes.len()].copy_from_slice(bytes);
+    // By index: `copy_from_slice` makes the library for C need memmove.
+    for i in 0..bytes.len() {
+        out[i] = bytes[i];
+    }
     bytes.len()
 }
 

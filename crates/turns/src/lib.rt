@@ -3,9 +3,11 @@
 // for coordinates in the span.
 #![tactic(auto)]
 
-ghost use Rattle.std.specs.Prelude.{◌≡◌, pos, ◌-ℤ◌, ◌≤ℤ◌};
+ghost use Rattle.std.specs.Prelude.{◌≡◌, pos, ◌-ℤ◌, ◌<◌, ◌≤ℤ◌, get_or, length};
 ghost use Rattle.std.specs.Int.Signed.{lt_z};
+ghost use Rattle.std.proofs.Props.{props};
 ghost use Rattle.plane.specs.Members.{All};
+ghost use Rattle.plane.specs.Props.{All-prop};
 ghost use Rattle.plane.specs.Points.{InSpan, signed_area, dot_product};
 ghost use Rattle.turns.specs.Keys.{IsKey, KeyOf, point_of, east_part, north_part};
 ghost use Rattle.turns.specs.Turns.{turn_of};
@@ -67,7 +69,10 @@ impl Coded for Key {
     ghost told = { λ a b e. e };
 
     // The number that the key is.
-    fn code(self) -> u32 {
+    fn code(self) -> u32
+        ensures value { result ≡ self }
+        ensures key { IsKey self }
+    {
         self.code
     }
 }
@@ -176,6 +181,26 @@ impl Key {
         Key {
             code: east * STRIDE + (difference / STRIDE + east - STRIDE),
         }
+    }
+}
+
+// A list of numbers that are keys. No list of `Key`: it stands in a buffer that is lent, which may hold any numbers
+// until it is written. Of a list that is lent to be changed the clause `AllKeys` says it. That a list is not empty is a
+// clause where it must not be.
+#[derive(Clone, Copy)]
+pub struct Keys<'a> {
+    pub codes: &'a [u32],
+    ghost all_keys: { All IsKey codes.now } by { Prim.hlevel (props, All-prop) },
+}
+
+impl<'a> Keys<'a> {
+    // The key at a place. Loops go over places by it: over the numbers, each would need an answer of its own that what
+    // it reads is a key.
+    pub fn at(self, i: usize) -> Key
+        requires { i < length self.codes.now }
+        ensures { result ≡ get_or self.entry.codes.now i 0 }
+    {
+        Key::from_code(self.codes[i])
     }
 }
 

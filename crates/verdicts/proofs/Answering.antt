@@ -92,6 +92,9 @@ judged_from k hk bs h =
     let o = view_says k bs h SouthWest in
     by_drivers bs (point_of k) (balance_of k bs view) (support_of k bs view) (balance_says k bs h view o) (support_says k hk bs h view o)
 
+pub judged_found : (k : ℕ) → IsKey k → (bs : List Box) → All BoxInSpan bs → {v : Verdict} → v ≡ verdict_from k bs (view_of k SouthWest bs) → Judged bs (point_of k) v
+judged_found k hk bs h e = subst (λ v. Judged bs (point_of k) v) (sym e) (judged_from k hk bs h)
+
 -- a plug that is outside is found to be
 pub outside_from : (k : ℕ) (bs : List Box) → All BoxInSpan bs → All Ordered bs → Separated (map (from 1 (point_of k)) (all_corners bs))
     → Verdict'.Outside ≡ verdict_from k bs (view_of k SouthWest bs)

@@ -21,7 +21,7 @@ fn print_reply(output: &impl Print, reply: Result<Word, Refusal>) -> io::Result<
 
 fn run_case(input: &mut impl Read, output: &impl Print, list: &mut [i32]) -> io::Result<()> {
     cases::read_over(input, list);
-    let boxes = cases::read_front(input, list);
+    let boxes = &list[..cases::read_front(input, list)];
     let east = cases::read_number(input);
     let north = cases::read_number(input);
     let plug = Point { east, north };

@@ -3,7 +3,10 @@ use mathlib.Core.Bool.{true, false}
 use mathlib.Core.Path.{◌≡◌, refl}
 use mathlib.Core.Logic.{⊎_elim}
 use mathlib.Core.List.{List, map}
-use Prim.Native.Nat.{ℕ}
+use Prim.Native.Nat.{ℕ, ◌≤◌}
+use native.Mathlib.Omega.{arith}
+use lib.ListN.{length, take, drop, length-drop}
+use lib.Seq.{length-take-le}
 use Rattle.plane.specs.declared.Point.{Point}
 use Rattle.plane.specs.Vectors.{from, Supported, Balanced}
 use Rattle.plane.proofs.Lists.{all_map, all_unmap}
@@ -12,7 +15,7 @@ use Rattle.turns.specs.Keys.{point_of}
 use Rattle.rounds.specs.Boxes.{corners_of, all_corners}
 use Rattle.rounds.specs.declared.Box.{Box}
 use Rattle.rounds.specs.declared.Corner.{Corner}
-use Rattle.rounds.specs.declared.Corner.TheVariants.{SouthWest}
+use Rattle.rounds.specs.declared.Corner.TheVariants.{SouthWest, SouthEast, NorthEast, NorthWest}
 use Rattle.rounds.specs.declared.Word.TheVariants.{Inside, Outside, Undecided}
 use Rattle.rounds.proofs.Corners.{corner_pick, one_of_all, inside_by_corners, outside_by_corners}
 use Rattle.rounds.proofs.Total.{corners_second, exactly}
@@ -20,8 +23,8 @@ use Rattle.locations.specs.Places.{PlaceOf}
 use Rattle.locations.specs.declared.Place.{Place}
 use Rattle.locations.specs.declared.Place.TheVariants.{Within, OnLine, Off}
 use Rattle.outlines.specs.declared.RoundCounts.{RoundCounts}
-use Rattle.outlines.specs.RoundPolygons.{outer_vertices, corner_vertices, RoundPolygons}
-use Rattle.words.specs.Words.{WithinOf, WordIn}
+use Rattle.outlines.specs.RoundPolygons.{count_of, start_of, outer_vertices, corner_vertices, RoundPolygons}
+use Rattle.words.specs.Words.{RoundKeys, WithinOf, WordIn}
 
 -- ---- one polygon: strictly within it, or not
 
@@ -44,6 +47,24 @@ not_supported vs h = ⊎_elim (λ b. b) (λ s. absurd (h (separated_supported vs
 corners_supported : (c : Corner) (bs : List Box) (p : Point) → Supported (map (from 1 p) (all_corners bs)) → Supported (map (from 1 p) (corners_of c bs))
 corners_supported c bs p h =
     record { a = h.a; b = h.b; nonzero = h.nonzero; behind = all_map (from 1 p) (one_of_all c bs (all_unmap (from 1 p) (all_corners bs) h.behind)) }
+
+-- of the polygons of some boxes, each has a vertex, and all vertices are keys
+pub round_keys : {bs : List Box} {ks : List ℕ} {n : RoundCounts} → RoundPolygons bs ks n → RoundKeys ks n
+round_keys {bs} {ks} {n} p =
+    record {
+      enough = p.enough;
+      outer = record { some = taken n.outer ks p.outer.some (omega (arith, p.enough)); keys = p.outer.keys };
+      corners = λ c. record { some = taken (count_of n c) (drop (start_of n c) ks) (p.corners c).some (enough c); keys = (p.corners c).keys };
+    }
+  where
+    taken : (m : ℕ) (l : List ℕ) → 1 ≤ m → m ≤ length l → 1 ≤ length (take m l)
+    taken m l h r = omega (arith, length-take-le m l r)
+
+    enough : (c : Corner) → count_of n c ≤ length (drop (start_of n c) ks)
+    enough SouthWest = simp length-drop (omega (arith, p.enough))
+    enough SouthEast = simp length-drop (omega (arith, p.enough))
+    enough NorthEast = simp length-drop (omega (arith, p.enough))
+    enough NorthWest = simp length-drop (omega (arith, p.enough))
 
 module _ (ks : List ℕ) (n : RoundCounts) (k : ℕ) where
   -- off the outer polygon

@@ -4,20 +4,25 @@ use Rattle.plane.specs.declared.Point.{Point}
 use Rattle.plane.specs.Members.{All}
 use Rattle.plane.specs.Vectors.{from, Supported}
 use Rattle.plane.specs.Polygons.{Polygon}
-use Rattle.turns.specs.Keys.{point_of}
+use Rattle.turns.specs.Keys.{IsKey, point_of}
 use Rattle.rounds.specs.Boxes.{Ordered}
 use Rattle.rounds.specs.Words.{word_of}
 use Rattle.rounds.specs.declared.Box.{Box}
 use Rattle.rounds.specs.declared.Corner.{Corner}
 use Rattle.rounds.specs.declared.Word.{Word}
 use Rattle.outlines.specs.declared.RoundCounts.{RoundCounts}
-use Rattle.outlines.specs.RoundPolygons.{all_counts, count_of, RoundPolygons}
+use Rattle.outlines.specs.RoundPolygons.{all_counts, outer_vertices, corner_vertices, RoundPolygons}
 
--- the slice has the five polygons' vertices, of each at least one
-pub record CountsFit (ks : List ℕ) (n : RoundCounts) : Type 0 where
+-- there is a vertex, and every vertex is a key
+pub record KeyVertices (ks : List ℕ) : Type 0 where
+  pub some : 1 ≤ length ks
+  pub keys : All IsKey ks
+
+-- the slice has the five polygons' vertices, of each at least one, and they are keys
+pub record RoundKeys (ks : List ℕ) (n : RoundCounts) : Type 0 where
   pub enough : all_counts n ≤ length ks
-  pub outer : 1 ≤ n.outer
-  pub corners : (c : Corner) → 1 ≤ count_of n c
+  pub outer : KeyVertices (outer_vertices n ks)
+  pub corners : (c : Corner) → KeyVertices (corner_vertices n c ks)
 
 -- it is the one word of the plug, for all ordered boxes whose polygons they are
 pub record WordIn (ks : List ℕ) (n : RoundCounts) (k : ℕ) (r : Word) : Type 0 where

@@ -1,12 +1,12 @@
--- `chains::pop` meets its contract. The invariant: between 1 and k vertices are left, and no side that went turns right to r. Assumes nothing.
+-- `chains::pop` meets its contract. The invariant: at least one vertex is left, and no side that went turns right to r. Assumes nothing.
 use mathlib.Core.List.{List}
-use mathlib.Core.Path.{◌≡◌, ◌∙◌}
+use mathlib.Core.Path.{◌≡◌}
 use Prim.Native.Nat.{ℕ, suc, ◌+◌, ◌-◌, ◌≤◌, ◌<◌}
 use native.Mathlib.Decide.{dec_lt}
 use native.Mathlib.Omega.{arith}
 use lib.IntN.{pos}
+use lib.ListN.{length}
 use lib.Signed.{◌≤ℤ◌, ◌<ℤ◌}
-use Rattle.std.proofs.lemmas.Grind.{get_or_default_zero}
 use Rattle.chains.specs.Chains.{turn}
 use Rattle.orders.specs.Order.{get}
 use Rattle.chains.proofs.Turning.{right_if, not_right_if}
@@ -34,20 +34,16 @@ at-gone s r k n x y p q f h j l o = go (dec_lt (suc j) n)
 pub returns-then-turns_right : goal.returns-then-turns_right
 returns-then-turns_right c =
     let l = c.loop-n in
-    let s = c.args in
-    let below = c.index-stack-n.is ∙ get_or_default_zero s.stack.now (l.n - 1 - 1) c.index-stack-n.result (omega arith) in
-    let top = c.index-stack-n-in-loop-n.is ∙ get_or_default_zero s.stack.now (l.n - 1) c.index-stack-n-in-loop-n.result (omega arith) in
+    let s = c.args.stack.codes.now in
     record {
       some = omega arith;
       most = omega arith;
-      bend = λ j e. at_top s.stack.now s.r l.n j _ _ below top e (omega arith) (right_if _ _ _ _ c.turns_right.ensures c.if-turns_right.true);
+      bend = λ j e. at_top s c.args.r l.n j _ _ c.at-a.ensures c.at-b.ensures e (omega arith) (right_if _ _ _ _ c.turns_right.ensures c.if-turns_right.true);
       gone = λ j e h. l.invariant.1 j (omega arith) h;
     }
 
 pub loop-n-preserved : goal.loop-n-preserved
 loop-n-preserved c =
     let l = c.loop-n in
-    let s = c.args in
-    let below = c.index-stack-n.is ∙ get_or_default_zero s.stack.now (l.n - 1 - 1) c.index-stack-n.result (omega arith) in
-    let top = c.index-stack-n-in-loop-n.is ∙ get_or_default_zero s.stack.now (l.n - 1) c.index-stack-n-in-loop-n.result (omega arith) in
-    (omega arith, at-gone s.stack.now s.r s.k l.n _ _ below top l.invariant.1 (not_right_if _ _ _ _ c.turns_right.ensures c.if-turns_right.false))
+    let s = c.args.stack.codes.now in
+    (omega arith, at-gone s c.args.r (length s) l.n _ _ c.at-a.ensures c.at-b.ensures l.invariant.1 (not_right_if _ _ _ _ c.turns_right.ensures c.if-turns_right.false))

@@ -5,5 +5,5 @@ use Rattle.orders.specs.Order.{get}
 use Rattle.chains.specs.Chains.{Chain, framed}
 use Rattle.chains.proofs.upper_chain.Given as goal
 
-abbrev pub invariant-loop-r : goal.invariant-loop-r
-invariant-loop-r l = Chain (framed l.fn.ends.first l.keys l.fn.ends.last) (suc l.r-index) (get l.stack) l.k
+abbrev pub invariant-loop-i : goal.invariant-loop-i
+invariant-loop-i l = Chain (framed l.fn.ends.first l.keys.codes.now l.fn.ends.last) (suc l.i) (get l.stack) l.k

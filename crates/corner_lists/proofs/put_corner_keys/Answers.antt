@@ -5,15 +5,12 @@ use lib.ListN.{length, drop}
 use lib.Seq.{length-take-le}
 use Rattle.rounds.specs.Boxes.{boxes_of, corners_of}
 use Rattle.corners.proofs.Places.{corners_length}
-use Rattle.corner_lists.proofs.Filling.{Filled, filled_none, filled_more, filled_keys, keys_before}
+use Rattle.corner_lists.proofs.Filling.{Filled, filled_more, filled_keys, keys_before}
 use Rattle.corner_lists.proofs.put_corner_keys.Goals as goal
-
-pub loop-k-init : goal.loop-k-init
-loop-k-init c = filled_none _ _
 
 pub loop-k-preserved : goal.loop-k-preserved
 loop-k-preserved c =
-    let l = c.loop-k in filled_more _ l.key-items l.k c.corner_key.result (omega arith) c.corner_key.ensures l.invariant
+    let l = c.loop-k in filled_more _ l.key-items l.k _ (omega arith) (rw c.code.ensures.value c.corner_key.ensures) l.invariant
 
 pub returns : goal.returns
 returns c =

@@ -2,5 +2,5 @@
 use Rattle.extremes.proofs.Dropping.{Codes}
 use Rattle.extremes.proofs.find_far.Given as goal
 
-abbrev pub invariant-loop-key : goal.invariant-loop-key
-invariant-loop-key l = Codes l.keys l.ne l.nw l.sw l.se
+abbrev pub invariant-loop-i : goal.invariant-loop-i
+invariant-loop-i l = Codes l.keys.codes.now l.ne l.nw l.sw l.se

@@ -6,8 +6,8 @@ use Rattle.std.proofs.lemmas.List.{map-id}
 use Rattle.hulls.proofs.Made.{made_one}
 use Rattle.hulls.proofs.polygon.Goals as goal
 
-pub returns-then-le : goal.returns-then-le
-returns-then-le c =
+pub returns-then-ends : goal.returns-then-ends
+returns-then-ends c =
     let f = c.find_ends-ends in
-    made_one c.args.keys.now _ f.result.first f.result.last c.requires.0 (simp length-set (omega arith))
-    (rw map-id at f.ensures) (grind (arith, c.le.ensures, c.if-le.true)) (get_or-set_same c.args.vertices.now 0 f.result.first 0 (omega arith))
+    made_one c.args.keys.now _ f.result.first f.result.last c.requires.in_bounds.0 (simp length-set (omega (arith, c.requires.in_bounds)))
+    c.requires.all_keys (rw map-id at f.ensures) c.if-ends.true (get_or-set_same c.args.vertices.now 0 f.result.first 0 (omega (arith, c.requires.in_bounds)))

@@ -8,7 +8,6 @@ use lib.ListN.{length, get_or, length-map}
 use mir.Syntax.{w32}
 use mir.Val.{SFits, to_z, of_z}
 use mir.ValLaws.{to_z-of_z}
-use Rattle.std.proofs.lemmas.Grind.{get_or_default_zero}
 use Rattle.integers.proofs.Tests.{ok}
 use Rattle.plane.proofs.Lists.{map_at}
 use Rattle.turns.specs.Keys.{point_of}
@@ -31,11 +30,11 @@ loop-k-preserved c =
     let l = c.loop-k in
     let e = c.east in
     let n = c.north in
-    let ks = c.args.keys.now in
+    let ks = c.args.keys.codes.now in
     let vs = map point_of ks in
     let twice : length (flat vs) ≡ length ks * 2 = flat_length vs ∙ ap (λ m. m * 2) (length-map ks point_of) in
     let next : l.k * 2 + 1 + 1 ≡ (l.k + 1) * 2 = omega arith in
-    let read = c.index-keys-k.is ∙ get_or_default_zero ks l.k c.index-keys-k.result (omega arith) in
+    let read = c.at-key.ensures in
     let east = east_is ks l.k e.result (omega arith) (ok e.result e.type_inv) (e.ensures.value ∙ ap (λ k. (point_of k).east) read) in
     let north = north_is ks l.k n.result (omega arith) (ok n.result n.type_inv) (n.ensures.value ∙ ap (λ k. (point_of k).north) read) in
     two_more (flat vs) c.args.answer.now l.answer (l.k * 2) _ _ (omega arith) (omega arith) l.invariant east north ∙ ap (partly (flat vs) c.args.answer.now) next
@@ -43,5 +42,5 @@ loop-k-preserved c =
 pub returns : goal.returns
 returns c =
     let l = c.loop-k in
-    let vs = map point_of c.args.keys.now in
-    l.invariant ∙ partly_all (flat vs) c.args.answer.now (l.k * 2) (omega (arith, flat_length vs, length-map c.args.keys.now point_of))
+    let vs = map point_of c.args.keys.codes.now in
+    l.invariant ∙ partly_all (flat vs) c.args.answer.now (l.k * 2) (omega (arith, flat_length vs, length-map c.args.keys.codes.now point_of))

@@ -8,4 +8,4 @@ use Rattle.listings.proofs.Writing.{partly}
 use Rattle.listings.proofs.write_vertices.Given as goal
 
 abbrev pub invariant-loop-k : goal.invariant-loop-k
-invariant-loop-k l = l.answer ≡ partly (flat (map point_of l.keys)) l.initial.answer (l.k * 2)
+invariant-loop-k l = l.answer ≡ partly (flat (map point_of l.keys.codes.now)) l.initial.answer (l.k * 2)

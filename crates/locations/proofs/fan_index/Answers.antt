@@ -26,7 +26,7 @@ narrowest {ks} {k} {low} {high} h l =
 
 pub loop-low-init : goal.loop-low-init
 loop-low-init c =
-    let ks = c.args.vertices.now in
+    let ks = c.args.vertices.codes.now in
     record {
       later = omega arith;
       apart = omega arith;

@@ -19,7 +19,7 @@ pub record Narrowed (ks : List ℕ) (k low high : ℕ) : Type 0 where
   pub left : pos 0 ≤ℤ signed_area (vertex_at ks 0) (vertex_at ks high) (point_of k)
 
 abbrev pub invariant-loop-low : goal.invariant-loop-low
-invariant-loop-low l = Narrowed l.vertices l.plug l.low l.high
+invariant-loop-low l = Narrowed l.vertices.codes.now l.plug l.low l.high
 
 abbrev pub decreases-loop-low : goal.decreases-loop-low
 decreases-loop-low l = l.high - l.low

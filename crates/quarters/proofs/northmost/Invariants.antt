@@ -2,5 +2,5 @@
 use Rattle.quarters.proofs.Keeping.{NorthmostUpto}
 use Rattle.quarters.proofs.northmost.Given as goal
 
-abbrev pub invariant-loop-key : goal.invariant-loop-key
-invariant-loop-key l = NorthmostUpto l.keys l.key-index l.peak
+abbrev pub invariant-loop-i : goal.invariant-loop-i
+invariant-loop-i l = NorthmostUpto l.keys.codes.now l.i l.peak

@@ -24,8 +24,8 @@ returns c =
     let r = c.requires in
     let o = c.put_peak-at.new.out in
     let at = c.put_peak-at.result in
-    let left = c.args.before.now in
-    let right = c.args.behind.now in
+    let left = c.args.before.codes.now in
+    let right = c.args.behind.codes.now in
     let put : at ≤ length left + 1 = few y.ensures.quarter.few c.put_peak-at.ensures in
     let room : at ≤ length o = omega (arith, r.out_room) in
     joined left right y.new.out o x.new.out _ c.args.ends.now.first c.northmost-peak.result c.args.ends.now.last y.result at x.result
