@@ -102,8 +102,12 @@ left_hull old new n l o =
 pub record TwoChains (keys old l : List ℕ) (ku kl : ℕ) : Type 0 where
   pub few : ku - 1 + (kl - 1) ≤ length keys
   pub lower : AllKeys (get l) (kl - 1)
-  pub hull : (new : List ℕ) → length keys ≤ length new → kl - 1 ≤ length l
-      → Appended reflected (get old) (get new) (get (take (kl - 1) l)) (ku - 1) (length (take (kl - 1) l)) → Hull keys new (ku - 1 + (kl - 1))
+  pub hull : (new : List ℕ) → length keys ≤ length new → Appended reflected (get old) (get new) (get l) (ku - 1) (kl - 1) → Hull keys new (ku - 1 + (kl - 1))
+
+-- what the first k of a list append is what the list appends
+pub front_appended : {f old new : ℕ → ℕ} (l : List ℕ) {at k : ℕ} → k ≤ length l → Appended f old new (get (take k l)) at (length (take k l)) → Appended f old new (get l) at k
+front_appended {f} l {at} {k} room w =
+    record { before = w.before; after = λ i o. w.after i (omega (arith, o, length-take-le k l room)) ∙ ap f (get_or-take k l i 0 o) }
 
 -- no key is above first, up and last, of which there is an upper chain; nor any reflected key above last, down and first, reflected
 module _ (keys up down old l : List ℕ) (first last ku kl : ℕ) (ks : AllKeys (get keys) (length keys)) (h : first < last) (ends : EndsOf keys first last)
@@ -207,16 +211,14 @@ module _ (keys up down old l : List ℕ) (first last ku kl : ℕ) (ks : AllKeys 
   made_lower : AllKeys (get l) (kl - 1)
   made_lower = among (mirror_keys (get all) (length all) back keys_all mirrored) (record { find = λ j o. cl'.from j (omega arith) })
 
-  made_hull : (new : List ℕ) → length keys ≤ length new → kl - 1 ≤ length l
-      → Appended reflected (get old) (get new) (get (take (kl - 1) l)) (ku - 1) (length (take (kl - 1) l)) → Hull keys new (ku - 1 + (kl - 1))
-  made_hull new long room w =
+  made_hull : (new : List ℕ) → length keys ≤ length new → Appended reflected (get old) (get new) (get l) (ku - 1) (kl - 1) → Hull keys new (ku - 1 + (kl - 1))
+  made_hull new long w =
       same_hull (omega (arith, many)) inward outward
       (closed_hull all new (ku - 1 + (kl - 1)) (omega (arith, made_few)) keys_all
       (closed_is (get all) (length all) sorted_all.sorted keys_all ends_all (get old) (ku - 1) cu' back mirrored (get l) (kl - 1) cl'
       (get (take (ku - 1 + (kl - 1)) new))
       (λ j o. get_or-take (ku - 1 + (kl - 1)) new j 0 (omega arith) ∙ w.before j o)
-      (λ i o. get_or-take (ku - 1 + (kl - 1)) new (ku - 1 + i) 0 (omega arith) ∙ w.after i (omega (arith, length-take-le (kl - 1) l room))
-      ∙ ap reflected (get_or-take (kl - 1) l i 0 o))))
+      (λ i o. get_or-take (ku - 1 + (kl - 1)) new (ku - 1 + i) 0 (omega arith) ∙ w.after i o)))
 
   pub chained : TwoChains keys old l ku kl
   chained = record { few = made_few; lower = made_lower; hull = made_hull }

@@ -22,14 +22,28 @@ use words::Polygons;
 // The most vertices of the five polygons of a round.
 pub const MOST_VERTICES: usize = 8192;
 
-// Writes a word after a plug's number.
-fn write_word(word: Word, out: &mut [u8]) -> usize
+// Writes a word's name between a blank and the line's end. (Inlined where the word is known, so that each of the three
+// pieces has a known length.)
+#[inline(always)]
+fn write_name(word: Word, out: &mut [u8]) -> usize
     requires { most_after_number ≤ length out.old }
     ensures { Wrote (after_number (replied word)) out.old result out.new }
 {
     let n = texts::write_bytes(b" ", out);
     let m = n + texts::write_bytes(word.name().as_bytes(), &mut out[n..]);
     m + texts::write_bytes(b"\n", &mut out[m..])
+}
+
+// Writes a word after a plug's number.
+fn write_word(word: Word, out: &mut [u8]) -> usize
+    requires { most_after_number ≤ length out.old }
+    ensures { Wrote (after_number (replied word)) out.old result out.new }
+{
+    match word {
+        Word::Inside => write_name(Word::Inside, out),
+        Word::Outside => write_name(Word::Outside, out),
+        Word::Undecided => write_name(Word::Undecided, out),
+    }
 }
 
 // Writes what stands after a plug's number. A plug is refused by one cause alone, so its line is written out.

@@ -38,11 +38,15 @@ impl Way {
     }
 
     // Whether a key is outside: strictly left of the line, and strictly between the way's two keys in order. Few keys
-    // are, so that the test of the side comes first. (By reference, as `Ends::reflected`.)
+    // are, so that the side is tested before the order; but first whether it is the way's last key, as all keys of
+    // equal boxes are. (By reference, as `Ends::reflected`.)
     fn is_outside(&self, key: Key) -> bool
         ensures outside { result ≡ true → Outside self.now.from self.now.to key }
         ensures not_outside { result ≡ false → Outside self.now.from self.now.to key → ⊥ }
     {
+        if key == self.to {
+            return false;
+        }
         if lines::side_of(self.line, key) <= 0 {
             return false;
         }

@@ -5,7 +5,7 @@ use lib.Seq.{length-take-le}
 use Rattle.turns.proofs.Listed.{front_listed}
 use Rattle.halves.proofs.Reordering.{reordered_numbers}
 use Rattle.hulls.proofs.Parting.{Parted, parted, upper_input, upper_listed, lower_less, lower_input, lower_listed}
-use Rattle.hulls.proofs.Made.{TwoChains, made}
+use Rattle.hulls.proofs.Made.{TwoChains, front_appended, made}
 use Rattle.hulls.proofs.two_chains.Goals as goal
 use Rattle.hulls.proofs.two_chains.Goals.{After-sort_parts, After-upper_chain-kl}
 
@@ -51,4 +51,4 @@ append_reflected-requires c =
 pub returns : goal.returns
 returns c =
     let m = chains (goal.at.returns c).After-upper_chain-kl (parts (goal.at.returns c).After-sort_parts) in
-    m.hull c.append_reflected.new.vertices (omega (arith, c.requires.keys_in_bounds)) (omega (arith, m.few)) c.append_reflected.ensures
+    m.hull c.append_reflected.new.vertices (omega (arith, c.requires.keys_in_bounds)) (front_appended c.upper_chain-kl.new.stack (omega (arith, m.few)) c.append_reflected.ensures)

@@ -12,7 +12,7 @@ use Rattle.turns.proofs.Listed.{front_listed}
 use Rattle.orders.specs.Order.{get}
 use Rattle.rounds.specs.Boxes.{BoxList, boxes_of, all_corners}
 use Rattle.halves.specs.Halves.{Appended}
-use Rattle.hulls.proofs.Made.{TwoChains}
+use Rattle.hulls.proofs.Made.{TwoChains, front_appended}
 use Rattle.corner_lists.proofs.Chains.{chain_listed}
 use Rattle.outlines.specs.Outlines.{PolygonKeys}
 use Rattle.outlines.proofs.Outer.{keys_of, corners_keyed, corners_many, points_polygon, front_sorted, front_amid, outer_chains, whole_length, whole_front}
@@ -31,8 +31,8 @@ module _ (l : List ℤ) (bl : BoxList l) {above below : List ℕ} {ku kl : ℕ} 
       → PolygonKeys (all_corners (boxes_of l)) after (ku - 1 + (kl - 1))
   polygon rest after some kr long in_below room ap =
       points_polygon (corners_keyed l bl) after (ku - 1 + (kl - 1)) (omega (arith, many, room))
-      (both.hull after (omega (arith, corners_many l bl, room)) in_below
-      (record { before = λ j o. ap.before j o ∙ whole_front ku above rest kr long j (omega arith); after = ap.after }))
+      (both.hull after (omega (arith, corners_many l bl, room))
+      (front_appended below in_below (record { before = λ j o. ap.before j o ∙ whole_front ku above rest kr long j (omega arith); after = ap.after })))
 
 -- each list is long enough
 upper_room : (c : After-upper_keys-u) → c.upper_keys-u.result ≤ length c.upper_keys-u.new.list
