@@ -134,7 +134,7 @@ fn is_filled(sample: Keys) -> bool
     requires { 1 ≤ length sample.codes.now }
 {
     let r = between_far(find_far(sample));
-    is_open(r) & (count_outside(sample.codes, r) + FILLED <= sample.codes.len())
+    is_open(r) && count_outside(sample.codes, r) + FILLED <= sample.codes.len()
 }
 
 // Moves keys to the front, and counts them, so that each other has some of these in all four quadrants round it, and
