@@ -187,13 +187,17 @@ module _ (old : List ℕ) (first last : ℕ) (keys mirror : List ℕ) (i u v : �
               (get_or-set_same mirror v key' 0 (omega (arith, p.few, p.room)) ∙ ke' ∙ ap reflected ke) e rights;
         }
 
-  pub split_end : AllKeys (get old) (length old) → length old ≤ i → EndsOf old first last → Halves old first last keys mirror u v
-  split_end ks h n =
+  -- both parts, whatever the numbers are
+  pub split_parts : length old ≤ i → EndsOf old first last
+      → (u + v + 2 ≤ length old) × Part (get old) (length old) (λ k. k) (get keys) u (Left first last) (NotLeft first last)
+      × Part (get old) (length old) reflected (get mirror) v (Right first last) (NotRight first last)
+  split_parts h n =
       let e : i ≡ length old = omega (arith, p.i_in) in
-      let s = subst (λ j. Spare (get old) first last j (u + v)) e p.spare in
-      record {
-        all_keys = ks;
-        few = s.but_both n.first_in n.last_in;
-        above = subst (λ j. Part (get old) j (λ k. k) (get keys) u (Left first last) (NotLeft first last)) e p.up;
-        below = subst (λ j. Part (get old) j reflected (get mirror) v (Right first last) (NotRight first last)) e p.down;
-      }
+      let s = subst (λ j. Spare (get old) first last j (u + v)) e p.spare in (
+        s.but_both n.first_in n.last_in,
+        subst (λ j. Part (get old) j (λ k. k) (get keys) u (Left first last) (NotLeft first last)) e p.up,
+        subst (λ j. Part (get old) j reflected (get mirror) v (Right first last) (NotRight first last)) e p.down,
+      )
+
+  pub split_end : AllKeys (get old) (length old) → length old ≤ i → EndsOf old first last → Halves old first last keys mirror u v
+  split_end ks h n = let s = split_parts h n in record { all_keys = ks; few = s.0; above = s.1; below = s.2 }

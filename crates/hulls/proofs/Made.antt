@@ -8,6 +8,7 @@ use lib.ListN.{length, take}
 use lib.Seq.{length-take-le, get_or-take}
 use Rattle.plane.specs.declared.Point.{Point}
 use Rattle.plane.specs.Members.{◌∈◌}
+use Rattle.plane.specs.Polygons.{Polygon}
 use Rattle.plane.proofs.Outline.{outline_polygon}
 use Rattle.plane.proofs.Dropping.{Inner as InnerPoint, same_polygon}
 use Rattle.turns.specs.Keys.{point_of, AllKeys}
@@ -34,20 +35,38 @@ use Rattle.hulls.proofs.Listing.{Closed, closed_few, single_key, closed_is, side
 use Rattle.hulls.proofs.Outlines.{closed_outline, point_in, from_point, within_points}
 use Rattle.extremes.proofs.Dropping.{front_rest}
 
+-- ---- a polygon of numbers
+
+-- what `Hull` says beside that the vertices are keys: numbers that are no keys have points, and so a polygon, too
+pub record Outlined (keys vertices : List ℕ) (count : ℕ) : Type 0 where
+  pub some : 1 ≤ count
+  pub few : count ≤ length keys
+  pub polygon : Polygon (map point_of keys) (map point_of (take count vertices))
+  pub first : Least keys (get vertices 0)
+
+pub outlined : {keys vertices : List ℕ} {h : ℕ} → Hull keys vertices h → Outlined keys vertices h
+outlined g = record { some = g.some; few = g.few; polygon = g.polygon; first = g.first }
+
+pub hull_of : {keys vertices : List ℕ} {h : ℕ} → AllKeys (get vertices) h → Outlined keys vertices h → Hull keys vertices h
+hull_of ks o = record { some = o.some; few = o.few; listed = ks; polygon = o.polygon; first = o.first }
+
 -- ---- a closed listing is the polygon
 
-pub closed_hull : (keys vertices : List ℕ) (h : ℕ) → h ≤ length vertices → AllKeys (get keys) (length keys)
-    → Closed (get keys) (length keys) (get (take h vertices)) h → Hull keys vertices h
-closed_hull keys vertices h room ks c =
+pub closed_outlined : (keys vertices : List ℕ) (h : ℕ) → h ≤ length vertices → Closed (get keys) (length keys) (get (take h vertices)) h → Outlined keys vertices h
+closed_outlined keys vertices h room c =
     record {
       some = c.some;
       few = closed_few c;
-      listed = record { key = λ i l. rw (← get_or-take h vertices i 0 l) ((among ks c.from).key i l) };
       polygon =
           outline_polygon (closed_outline keys (take h vertices)
           (subst (λ n. Closed (get keys) (length keys) (get (take h vertices)) n) (sym (length-take-le h vertices room)) c));
       first = subst (Least keys) (get_or-take h vertices 0 0 c.some) (record { listed = c.from.find 0 c.some; least = c.least });
     }
+
+pub closed_hull : (keys vertices : List ℕ) (h : ℕ) → h ≤ length vertices → AllKeys (get keys) (length keys)
+    → Closed (get keys) (length keys) (get (take h vertices)) h → Hull keys vertices h
+closed_hull keys vertices h room ks c =
+    hull_of (record { key = λ i l. rw (← get_or-take h vertices i 0 l) ((among ks c.from).key i l) }) (closed_outlined keys vertices h room c)
 
 -- ---- the same for other keys, each of which is one of the keys or has some of them in all four quadrants round it
 
@@ -64,14 +83,13 @@ inner_point l k i =
       south_east = (point_of (get l s.0), point_in l s.0 s.1, east_less k (get l s.0) s.2, north_less (get l s.0) k s.3);
     }
 
-pub outer_hull : {keys others vertices : List ℕ} {h : ℕ} → length keys ≤ length others → EachAmong (get keys) (length keys) (get others) (length others)
+pub outer_outlined : {keys others vertices : List ℕ} {h : ℕ} → length keys ≤ length others → EachAmong (get keys) (length keys) (get others) (length others)
     → ((i : ℕ) → i < length others → Among (get keys) (length keys) (get others i) ⊎ Inner (get keys) (length keys) (get others i))
-    → Hull keys vertices h → Hull others vertices h
-outer_hull {keys} {others} {vertices} l w v g =
+    → Outlined keys vertices h → Outlined others vertices h
+outer_outlined {keys} {others} {vertices} l w v g =
     record {
       some = g.some;
       few = omega (arith, g.few);
-      listed = g.listed;
       polygon = let r = g.first.listed in same_polygon (within_points keys others w) back (point_of (get keys r.0)) (point_in keys r.0 r.1) g.polygon;
       first = record {
         listed = let r = g.first.listed in let s = w.find r.0 r.1 in (s.0, s.1, r.2 ∙ s.2);
@@ -85,16 +103,29 @@ outer_hull {keys} {others} {vertices} l w v g =
         let r = from_point others m in
         rw r.2 (⊎_elim (λ s. inl (rw s.2 (point_in keys s.0 s.1))) (λ s. inr (inner_point keys (get others r.0) s)) (v r.0 r.1))
 
+pub outer_hull : {keys others vertices : List ℕ} {h : ℕ} → length keys ≤ length others → EachAmong (get keys) (length keys) (get others) (length others)
+    → ((i : ℕ) → i < length others → Among (get keys) (length keys) (get others i) ⊎ Inner (get keys) (length keys) (get others i))
+    → Hull keys vertices h → Hull others vertices h
+outer_hull l w v g = hull_of g.listed (outer_outlined l w v (outlined g))
+
 -- so for keys with the same members
+pub same_outlined : {keys others vertices : List ℕ} {h : ℕ} → length keys ≤ length others → EachAmong (get keys) (length keys) (get others) (length others)
+    → EachAmong (get others) (length others) (get keys) (length keys) → Outlined keys vertices h → Outlined others vertices h
+same_outlined l w v = outer_outlined l w (λ i k. inl (v.find i k))
+
 pub same_hull : {keys others vertices : List ℕ} {h : ℕ} → length keys ≤ length others → EachAmong (get keys) (length keys) (get others) (length others)
     → EachAmong (get others) (length others) (get keys) (length keys) → Hull keys vertices h → Hull others vertices h
-same_hull l w v = outer_hull l w (λ i k. inl (v.find i k))
+same_hull l w v g = hull_of g.listed (same_outlined l w v (outlined g))
 
 -- and for keys of which the first n are left
-pub left_hull : (old new : List ℕ) (n : ℕ) {vertices : List ℕ} {h : ℕ} → n ≤ length new → Outer old new n → Hull (take n new) vertices h → Hull old vertices h
-left_hull old new n l o =
-    let e = length-take-le n new l in
-    outer_hull (omega (arith, o.few)) (front_within new n l o.kept) (front_rest old new n l o)
+module _ (old new : List ℕ) (n : ℕ) {vertices : List ℕ} {h : ℕ} where
+  pub left_outlined : n ≤ length new → Outer old new n → Outlined (take n new) vertices h → Outlined old vertices h
+  left_outlined l o =
+      let e = length-take-le n new l in
+      outer_outlined (omega (arith, o.few)) (front_within new n l o.kept) (front_rest old new n l o)
+
+  pub left_hull : n ≤ length new → Outer old new n → Hull (take n new) vertices h → Hull old vertices h
+  left_hull l o g = hull_of g.listed (left_outlined l o (outlined g))
 
 -- ---- the whole: the two parts of the keys, u of them in up and v in down; both in order, in up' and down'; the two chains, of ku vertices in old and kl in l
 
@@ -237,10 +268,16 @@ made {keys} {upper} {lower} {old} {l} {first} {last} {first'} {last'} {ku} {kl} 
     cu (rw (← f-is, ← l-is) cl)
 
 -- the same where all keys are one
-pub made_one : (keys out : List ℕ) (first last : ℕ) → 1 ≤ length keys → 1 ≤ length out → AllKeys (get keys) (length keys) → EndsOf keys first last
-    → last ≤ first → get out 0 ≡ first → Hull keys out 1
-made_one keys out first last some long ks ends same e =
-    closed_hull keys out 1 long ks (single_key (get keys) (length keys) (get (take 1 out)) some (λ i o. is i o ∙ sym (is 0 some)) (get_or-take 1 out 0 0 (omega arith) ∙ e ∙ sym (is 0 some)))
-  where
-    is : (i : ℕ) → i < length keys → get keys i ≡ first
-    is i o = omega (arith, ends.least i o, ends.most i o)
+module _ (keys out : List ℕ) (first last : ℕ) (some : 1 ≤ length keys) (long : 1 ≤ length out) where
+  one_closed : EndsOf keys first last → last ≤ first → get out 0 ≡ first → Closed (get keys) (length keys) (get (take 1 out)) 1
+  one_closed ends same e =
+      single_key (get keys) (length keys) (get (take 1 out)) some (λ i o. is i o ∙ sym (is 0 some)) (get_or-take 1 out 0 0 (omega arith) ∙ e ∙ sym (is 0 some))
+    where
+      is : (i : ℕ) → i < length keys → get keys i ≡ first
+      is i o = omega (arith, ends.least i o, ends.most i o)
+
+  pub made_one : AllKeys (get keys) (length keys) → EndsOf keys first last → last ≤ first → get out 0 ≡ first → Hull keys out 1
+  made_one ks ends same e = closed_hull keys out 1 long ks (one_closed ends same e)
+
+  pub one_outlined : EndsOf keys first last → last ≤ first → get out 0 ≡ first → Outlined keys out 1
+  one_outlined ends same e = closed_outlined keys out 1 long (one_closed ends same e)

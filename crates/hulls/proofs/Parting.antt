@@ -107,13 +107,13 @@ pub record Parted (keys : List ℕ) (first last : ℕ) (upper lower : List ℕ) 
   pub upper_sorted : Sorted (get upper) 0 (length upper)
   pub lower_sorted : Sorted (get lower) 0 (length lower)
 
-pub parted : {keys up down up' down' : List ℕ} {first last u v : ℕ} → EndsOf keys first last → AllKeys (get keys) (length keys)
+pub parted : {keys up down up' down' : List ℕ} {first last u v : ℕ} → EndsOf keys first last
     → Halves keys first last up down u v → PartsReordered up up' down down' u v → u ≤ length up' → v ≤ length down'
     → Parted keys first last (take u up') (take v down')
-parted {keys} {up} {down} {up'} {down'} {first} {last} {u} {v} ends ks hs ro h k =
+parted {keys} {up} {down} {up'} {down'} {first} {last} {u} {v} ends hs ro h k =
     record {
       ends = ends;
-      all = ks;
+      all = hs.all_keys;
       above = part_front up up' u ro.upper h hs.above;
       below = part_front down down' v ro.lower k hs.below;
       upper_sorted = sorted_front up up' u ro.upper h;

@@ -16,7 +16,7 @@ use Rattle.turns.specs.Keys.{IsKey, AllKeys, key_at, point_of}
 use Rattle.turns.specs.Reflection.{reflected}
 use Rattle.turns.proofs.Order.{point_injective}
 use Rattle.turns.proofs.Coordinates.{key_at_lem}
-use Rattle.turns.proofs.Listed.{front_listed, each_key}
+use Rattle.turns.proofs.Listed.{each_key}
 use Rattle.orders.specs.Order.{get, Sorted}
 use Rattle.chains.specs.Chains.{turn, Chain, Amid, Under, framed}
 use Rattle.extremes.specs.Inner.{Among, EndsOf}
@@ -28,7 +28,7 @@ use Rattle.corners.proofs.Places.{corner_in_span}
 use Rattle.corner_lists.proofs.Boxes.{corner_at_lem}
 use Rattle.corner_lists.specs.ChainKeys.{KeyIn, PointEnds, ChainKeys}
 use Rattle.outlines.specs.Outlines.{PolygonKeys}
-use Rattle.outlines.proofs.Polygons.{all_length}
+use Rattle.outlines.proofs.Polygons.{all_length, hull_keys}
 
 -- ---- the keys of points of the span
 
@@ -80,12 +80,12 @@ module _ {qs : List Point} (kd : Keyed qs) where
       }
 
   -- the polygon of the keys is that of the points
-  pub points_polygon : (vs : List ℕ) (count : ℕ) → count ≤ length vs → Hull keys_of vs count → PolygonKeys qs vs count
-  points_polygon vs count room g =
+  pub points_polygon : (vs : List ℕ) (count : ℕ) → Hull keys_of vs count → PolygonKeys qs vs count
+  points_polygon vs count g =
       record {
         some = g.some;
         few = omega (arith, g.few, keys_length);
-        keys = front_listed vs count room g.listed;
+        keys = hull_keys vs count g;
         polygon = subst (λ q. Polygon q (map point_of (take count vs))) kd.points g.polygon;
       }
 
@@ -132,7 +132,7 @@ module _ {qs : List Point} (kd : Keyed qs) {n first last : ℕ} (h : first < las
 pub outer_one : {qs : List Point} (kd : Keyed qs) {first last : ℕ} (out : List ℕ) → 1 ≤ length out → PointEnds qs first last → last ≤ first → get out 0 ≡ first → PolygonKeys qs out 1
 outer_one kd {first} {last} out room e same z =
     let w = among_keys kd e.first_in in
-    points_polygon kd out 1 room (made_one (keys_of kd) out first last (omega (arith, w.1)) room (all_keys kd) (key_ends kd e) same z)
+    points_polygon kd out 1 (made_one (keys_of kd) out first last (omega (arith, w.1)) room (all_keys kd) (key_ends kd e) same z)
 
 -- ---- the corners of a box list
 

@@ -5,7 +5,7 @@ use mathlib.Core.List.{List}
 use Prim.Native.Nat.{ℕ, ◌+◌, ◌≤◌, ◌<◌}
 use native.Mathlib.Decide.{dec_lt}
 use native.Mathlib.Omega.{arith}
-use lib.ListN.{length, set}
+use lib.ListN.{length, set, length-set}
 use lib.Seq.{get_or-set_same, get_or-set_other}
 use Rattle.turns.specs.Keys.{north_part}
 use Rattle.orders.specs.Order.{get}
@@ -34,22 +34,24 @@ pub keeping_none : (keys : List ℕ) (from to : ℕ) (out : List ℕ) → Keepin
 keeping_none keys from to out = record { i_in = omega arith; few = omega arith; part = part_none (get keys) _ (get out) _ _ }
 
 pub keeping_more : (keys : List ℕ) (from to : ℕ) (old : List ℕ) (i n : ℕ) (new : List ℕ) (m : ℕ) → i < length keys → n < length old → Keeping keys from to old i n
-    → (x : ℕ) → x ≡ get keys i → KeptIf from to x old n new m → Keeping keys from to new (i + 1) m
+    → (x : ℕ) → x ≡ get keys i → KeptIf from to x old n new m → (length new ≡ length old) × Keeping keys from to new (i + 1) m
 keeping_more keys from to old i n new m h k p x e t = ⊎_elim put left (subst (λ y. KeptIf from to y old n new m) e t).kept
   where
-    put : (m ≡ n + 1) × Outside from to (get keys i) × (new ≡ set old n (get keys i)) → Keeping keys from to new (i + 1) m
+    put : (m ≡ n + 1) × Outside from to (get keys i) × (new ≡ set old n (get keys i)) → (length new ≡ length old) × Keeping keys from to new (i + 1) m
     put z =
-        rw (z.0, z.2)
-        (record {
-          i_in = omega arith;
-          few = omega (arith, p.few);
-          part =
-              part_more (get keys) i (λ x. x) (get old) (get (set old n (get keys i))) n _ _ p.part (λ j l. get_or-set_other old n j (get keys i) 0 (λ z. omega arith))
-              (get_or-set_same old n (get keys i) 0 k) 1 (inl (refl, z.1));
-        })
+        rw (z.0, z.2) (
+          length-set old n (get keys i),
+          record {
+            i_in = omega arith;
+            few = omega (arith, p.few);
+            part =
+                part_more (get keys) i (λ x. x) (get old) (get (set old n (get keys i))) n _ _ p.part (λ j l. get_or-set_other old n j (get keys i) 0 (λ z. omega arith))
+                (get_or-set_same old n (get keys i) 0 k) 1 (inl (refl, z.1));
+          },
+        )
 
-    left : (m ≡ n) × (Outside from to (get keys i) → ⊥) × (new ≡ old) → Keeping keys from to new (i + 1) m
-    left z = rw (z.0, z.2) (record { i_in = omega arith; few = omega (arith, p.few); part = part_left p.part z.1 })
+    left : (m ≡ n) × (Outside from to (get keys i) → ⊥) × (new ≡ old) → (length new ≡ length old) × Keeping keys from to new (i + 1) m
+    left z = rw (z.0, z.2) (refl, record { i_in = omega arith; few = omega (arith, p.few); part = part_left p.part z.1 })
       where
         part_left : Part (get keys) i (λ k. k) (get old) n (Outside from to) (λ k. Outside from to k → ⊥) → (Outside from to (get keys i) → ⊥)
             → Part (get keys) (i + 1) (λ k. k) (get old) n (Outside from to) (λ k. Outside from to k → ⊥)

@@ -13,7 +13,7 @@ parts : (c : After-sort_parts) → Parted c.args.keys.now c.args.ends.now.first 
     (take c.split-parts.result.upper c.sort_parts.new.keys) (take c.split-parts.result.lower c.sort_parts.new.mirror)
 parts c =
     let x = c.split-parts in
-    parted c.requires.first_lt_last.1 c.requires.all_keys x.ensures (reordered_numbers c.sort_parts.ensures) (omega (arith, x.ensures.few)) (omega (arith, x.ensures.few, c.requires.keys_in_bounds))
+    parted c.requires.first_lt_last.1 x.ensures (reordered_numbers c.sort_parts.ensures) (omega (arith, x.ensures.few)) (omega (arith, x.ensures.few, c.requires.keys_in_bounds))
 
 chains : (c : After-upper_chain-kl) → Parted c.args.keys.now c.args.ends.now.first c.args.ends.now.last
     (take c.split-parts.result.upper c.sort_parts.new.keys) (take c.split-parts.result.lower c.sort_parts.new.mirror)

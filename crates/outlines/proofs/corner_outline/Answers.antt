@@ -18,4 +18,4 @@ pub returns : goal.returns
 returns c =
     front_polygon (corners_of c.args.corner (boxes_of c.args.boxes.numbers.now)) c.put_corner_keys.new.keys c.len-n.result
     (corners_length c.args.corner c.args.boxes.numbers.now ∙ sym c.len-n.ensures) (omega (arith, c.requires.scratch_for.in_keys)) c.put_corner_keys.ensures
-    c.hull.new.vertices c.hull.result (omega arith) c.hull.ensures
+    c.hull.new.vertices c.hull.result c.hull.ensures

@@ -30,7 +30,7 @@ module _ (l : List ℤ) (bl : BoxList l) {above below : List ℕ} {ku kl : ℕ} 
       → Appended reflected (get (take ku above ++ (rest ++ drop (length above - ku) (drop ku above)))) (get after) (get (take (kl - 1) below)) (ku - 1) (length (take (kl - 1) below))
       → PolygonKeys (all_corners (boxes_of l)) after (ku - 1 + (kl - 1))
   polygon rest after some kr long in_below room ap =
-      points_polygon (corners_keyed l bl) after (ku - 1 + (kl - 1)) (omega (arith, many, room))
+      points_polygon (corners_keyed l bl) after (ku - 1 + (kl - 1))
       (both.hull after (omega (arith, corners_many l bl, room))
       (front_appended below in_below (record { before = λ j o. ap.before j o ∙ whole_front ku above rest kr long j (omega arith); after = ap.after })))
 

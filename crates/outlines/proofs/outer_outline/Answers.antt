@@ -14,4 +14,4 @@ pub returns : goal.returns
 returns c =
     let l = c.args.boxes.numbers.now in
     front_polygon (all_corners (boxes_of l)) c.put_all_corners.new.keys (length l) (all_length l c.args.boxes.accepted.whole) (omega (arith, c.requires.scratch_for.in_keys))
-    c.put_all_corners.ensures c.hull.new.vertices c.hull.result (omega arith) c.hull.ensures
+    c.put_all_corners.ensures c.hull.new.vertices c.hull.result c.hull.ensures

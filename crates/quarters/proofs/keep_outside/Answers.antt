@@ -22,7 +22,7 @@ loop-i-preserved c =
             | else-is_outside w ↦ inr (w.count-is, x.ensures.not_outside w.if-is_outside.false, w.out-is)
           ];
     } in
-    keeping_more c.args.keys.codes.now c.args.way.from c.args.way.to l.out l.i l.count m.out m.count (omega arith) (omega (arith, l.invariant.few, c.requires)) l.invariant _ c.at-key.ensures kept
+    (keeping_more c.args.keys.codes.now c.args.way.from c.args.way.to l.out l.i l.count m.out m.count (omega arith) (omega (arith, l.invariant.few, c.requires)) l.invariant _ c.at-key.ensures kept).1
 
 pub returns : goal.returns
 returns c =
