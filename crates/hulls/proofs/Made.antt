@@ -52,21 +52,20 @@ hull_of ks o = record { some = o.some; few = o.few; listed = ks; polygon = o.pol
 
 -- ---- a closed listing is the polygon
 
-pub closed_outlined : (keys vertices : List ℕ) (h : ℕ) → h ≤ length vertices → Closed (get keys) (length keys) (get (take h vertices)) h → Outlined keys vertices h
-closed_outlined keys vertices h room c =
-    record {
-      some = c.some;
-      few = closed_few c;
-      polygon =
-          outline_polygon (closed_outline keys (take h vertices)
-          (subst (λ n. Closed (get keys) (length keys) (get (take h vertices)) n) (sym (length-take-le h vertices room)) c));
-      first = subst (Least keys) (get_or-take h vertices 0 0 c.some) (record { listed = c.from.find 0 c.some; least = c.least });
-    }
+module _ (keys vertices : List ℕ) (h : ℕ) (room : h ≤ length vertices) where
+  pub closed_outlined : Closed (get keys) (length keys) (get (take h vertices)) h → Outlined keys vertices h
+  closed_outlined c =
+      record {
+        some = c.some;
+        few = closed_few c;
+        polygon =
+            outline_polygon (closed_outline keys (take h vertices)
+            (subst (λ n. Closed (get keys) (length keys) (get (take h vertices)) n) (sym (length-take-le h vertices room)) c));
+        first = subst (Least keys) (get_or-take h vertices 0 0 c.some) (record { listed = c.from.find 0 c.some; least = c.least });
+      }
 
-pub closed_hull : (keys vertices : List ℕ) (h : ℕ) → h ≤ length vertices → AllKeys (get keys) (length keys)
-    → Closed (get keys) (length keys) (get (take h vertices)) h → Hull keys vertices h
-closed_hull keys vertices h room ks c =
-    hull_of (record { key = λ i l. rw (← get_or-take h vertices i 0 l) ((among ks c.from).key i l) }) (closed_outlined keys vertices h room c)
+  pub closed_hull : AllKeys (get keys) (length keys) → Closed (get keys) (length keys) (get (take h vertices)) h → Hull keys vertices h
+  closed_hull ks c = hull_of (record { key = λ i l. rw (← get_or-take h vertices i 0 l) ((among ks c.from).key i l) }) (closed_outlined c)
 
 -- ---- the same for other keys, each of which is one of the keys or has some of them in all four quadrants round it
 
@@ -83,49 +82,46 @@ inner_point l k i =
       south_east = (point_of (get l s.0), point_in l s.0 s.1, east_less k (get l s.0) s.2, north_less (get l s.0) k s.3);
     }
 
-pub outer_outlined : {keys others vertices : List ℕ} {h : ℕ} → length keys ≤ length others → EachAmong (get keys) (length keys) (get others) (length others)
-    → ((i : ℕ) → i < length others → Among (get keys) (length keys) (get others i) ⊎ Inner (get keys) (length keys) (get others i))
-    → Outlined keys vertices h → Outlined others vertices h
-outer_outlined {keys} {others} {vertices} l w v g =
-    record {
-      some = g.some;
-      few = omega (arith, g.few);
-      polygon = let r = g.first.listed in same_polygon (within_points keys others w) back (point_of (get keys r.0)) (point_in keys r.0 r.1) g.polygon;
-      first = record {
-        listed = let r = g.first.listed in let s = w.find r.0 r.1 in (s.0, s.1, r.2 ∙ s.2);
-        least = λ i k. ⊎_elim (λ r. rw r.2 (g.first.least r.0 r.1))
-            (λ r. let s = r.south_west in omega (arith, g.first.least s.0 s.1, east_first (get keys s.0) (get others i) s.2)) (v i k);
-      };
-    }
-  where
-    back : (p : Point) → p ∈ map point_of others → (p ∈ map point_of keys) ⊎ InnerPoint (map point_of keys) p
-    back p m =
-        let r = from_point others m in
-        rw r.2 (⊎_elim (λ s. inl (rw s.2 (point_in keys s.0 s.1))) (λ s. inr (inner_point keys (get others r.0) s)) (v r.0 r.1))
+module _ {keys others vertices : List ℕ} {h : ℕ} (l : length keys ≤ length others) (w : EachAmong (get keys) (length keys) (get others) (length others)) where
+  module _ (v : (i : ℕ) → i < length others → Among (get keys) (length keys) (get others i) ⊎ Inner (get keys) (length keys) (get others i)) where
+    pub outer_outlined : Outlined keys vertices h → Outlined others vertices h
+    outer_outlined g =
+        record {
+          some = g.some;
+          few = omega (arith, g.few);
+          polygon = let r = g.first.listed in same_polygon (within_points keys others w) back (point_of (get keys r.0)) (point_in keys r.0 r.1) g.polygon;
+          first = record {
+            listed = let r = g.first.listed in let s = w.find r.0 r.1 in (s.0, s.1, r.2 ∙ s.2);
+            least = λ i k. ⊎_elim (λ r. rw r.2 (g.first.least r.0 r.1))
+                (λ r. let s = r.south_west in omega (arith, g.first.least s.0 s.1, east_first (get keys s.0) (get others i) s.2)) (v i k);
+          };
+        }
+      where
+        back : (p : Point) → p ∈ map point_of others → (p ∈ map point_of keys) ⊎ InnerPoint (map point_of keys) p
+        back p m =
+            let r = from_point others m in
+            rw r.2 (⊎_elim (λ s. inl (rw s.2 (point_in keys s.0 s.1))) (λ s. inr (inner_point keys (get others r.0) s)) (v r.0 r.1))
 
-pub outer_hull : {keys others vertices : List ℕ} {h : ℕ} → length keys ≤ length others → EachAmong (get keys) (length keys) (get others) (length others)
-    → ((i : ℕ) → i < length others → Among (get keys) (length keys) (get others i) ⊎ Inner (get keys) (length keys) (get others i))
-    → Hull keys vertices h → Hull others vertices h
-outer_hull l w v g = hull_of g.listed (outer_outlined l w v (outlined g))
+    pub outer_hull : Hull keys vertices h → Hull others vertices h
+    outer_hull g = hull_of g.listed (outer_outlined (outlined g))
 
--- so for keys with the same members
-pub same_outlined : {keys others vertices : List ℕ} {h : ℕ} → length keys ≤ length others → EachAmong (get keys) (length keys) (get others) (length others)
-    → EachAmong (get others) (length others) (get keys) (length keys) → Outlined keys vertices h → Outlined others vertices h
-same_outlined l w v = outer_outlined l w (λ i k. inl (v.find i k))
+  -- so for keys with the same members
+  module _ (v : EachAmong (get others) (length others) (get keys) (length keys)) where
+    pub same_outlined : Outlined keys vertices h → Outlined others vertices h
+    same_outlined = outer_outlined (λ i k. inl (v.find i k))
 
-pub same_hull : {keys others vertices : List ℕ} {h : ℕ} → length keys ≤ length others → EachAmong (get keys) (length keys) (get others) (length others)
-    → EachAmong (get others) (length others) (get keys) (length keys) → Hull keys vertices h → Hull others vertices h
-same_hull l w v g = hull_of g.listed (same_outlined l w v (outlined g))
+    pub same_hull : Hull keys vertices h → Hull others vertices h
+    same_hull = outer_hull (λ i k. inl (v.find i k))
 
 -- and for keys of which the first n are left
-module _ (old new : List ℕ) (n : ℕ) {vertices : List ℕ} {h : ℕ} where
-  pub left_outlined : n ≤ length new → Outer old new n → Outlined (take n new) vertices h → Outlined old vertices h
-  left_outlined l o =
+module _ (old new : List ℕ) (n : ℕ) {vertices : List ℕ} {h : ℕ} (l : n ≤ length new) (o : Outer old new n) where
+  pub left_outlined : Outlined (take n new) vertices h → Outlined old vertices h
+  left_outlined =
       let e = length-take-le n new l in
       outer_outlined (omega (arith, o.few)) (front_within new n l o.kept) (front_rest old new n l o)
 
-  pub left_hull : n ≤ length new → Outer old new n → Hull (take n new) vertices h → Hull old vertices h
-  left_hull l o g = hull_of g.listed (left_outlined l o (outlined g))
+  pub left_hull : Hull (take n new) vertices h → Hull old vertices h
+  left_hull g = hull_of g.listed (left_outlined (outlined g))
 
 -- ---- the whole: the two parts of the keys, u of them in up and v in down; both in order, in up' and down'; the two chains, of ku vertices in old and kl in l
 

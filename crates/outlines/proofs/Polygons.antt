@@ -1,16 +1,17 @@
 -- From keys of points to the keys of their polygon. Assumes nothing.
 use mathlib.Core.Path.{◌≡◌, sym, ◌∙◌, ap, subst}
 use mathlib.Core.List.{List, map}
-use Prim.Native.Nat.{ℕ, ◌≤◌, ◌<◌, ◌%◌}
+use Prim.Native.Nat.{ℕ, ◌≤◌, ◌%◌, min}
 use native.Mathlib.Omega.{arith}
 use lib.IntN.{ℤ}
-use lib.ListN.{length, take, length-take, length-append}
-use lib.Seq.{length-take-le, get_or-take}
+use lib.ListN.{length, take, length-append}
+use lib.Seq.{length-take-le}
+use Rattle.std.proofs.lemmas.List.{take_min}
 use Rattle.plane.specs.declared.Point.{Point}
 use Rattle.plane.specs.Members.{All}
 use Rattle.plane.specs.Polygons.{Polygon}
-use Rattle.plane.proofs.Lists.{all_by_index}
 use Rattle.turns.specs.Keys.{IsKey, point_of}
+use Rattle.turns.proofs.Listed.{front_listed}
 use Rattle.hulls.specs.Hulls.{Hull}
 use Rattle.rounds.specs.Boxes.{boxes_of, all_corners}
 use Rattle.rounds.specs.declared.Corner.TheVariants.{SouthWest, SouthEast, NorthEast, NorthWest}
@@ -26,8 +27,7 @@ all_length l h =
 -- a hull's vertices are keys, in a list
 pub hull_keys : {ks : List ℕ} (vs : List ℕ) (count : ℕ) → Hull ks vs count → All IsKey (take count vs)
 hull_keys vs count g =
-    all_by_index 0 (take count vs)
-    (λ i o. let e : i < count = omega (arith, length-take count vs) in subst IsKey (sym (get_or-take count vs i 0 e)) (g.listed.key i e))
+    subst (All IsKey) (take_min count vs) (front_listed vs (min count (length vs)) (omega arith) (record { key = λ i o. g.listed.key i (omega arith) }))
 
 -- the first n keys of ks are those of the points qs
 module _ (qs : List Point) (ks : List ℕ) (n : ℕ) (e : length qs ≡ n) (h : n ≤ length ks) (f : KeysOf qs ks) where
