@@ -138,9 +138,8 @@ module _ (f : ℕ → ℕ) (g : Point → Point) (sees : (x : ℕ) → IsKey x �
         }
 
 -- where f makes keys of keys, the first u are a list of keys
-pub chain_listed : {f : ℕ → ℕ} {qs : List Point} {n first last u : ℕ} {out : List ℕ} → ((x : ℕ) → IsKey x → IsKey (f x)) → ChainKeys f qs n first last out u → u ≤ length out
-    → All IsKey (take u out)
-chain_listed {u = u} {out = out} keeps ck h = front_listed out u h (record { key = λ j o. let r = ck.from j o in subst IsKey (sym r.2) (keeps r.0 r.1.key) })
+pub chain_listed : {f : ℕ → ℕ} {qs : List Point} {n first last u : ℕ} {out : List ℕ} → ((x : ℕ) → IsKey x → IsKey (f x)) → ChainKeys f qs n first last out u → All IsKey (take u out)
+chain_listed {u = u} {out = out} keeps ck = front_listed out u (record { key = λ j o. let r = ck.from j o in subst IsKey (sym r.2) (keeps r.0 r.1.key) })
 
 -- ---- the two lists, one behind the other in an array
 

@@ -35,26 +35,25 @@ use Rattle.hulls.proofs.Listing.{Closed, closed_few, single_key, closed_is, side
 use Rattle.hulls.proofs.Outlines.{closed_outline, point_in, from_point, within_points}
 use Rattle.extremes.proofs.Dropping.{front_rest}
 
--- ---- a polygon of numbers
+-- ---- the polygon of plain numbers, which need not be keys: what `Hull` says beside that the vertices are
 
--- what `Hull` says beside that the vertices are keys: numbers that are no keys have points, and so a polygon, too
-pub record Outlined (keys vertices : List ℕ) (count : ℕ) : Type 0 where
+pub record PlainHull (keys vertices : List ℕ) (count : ℕ) : Type 0 where
   pub some : 1 ≤ count
   pub few : count ≤ length keys
   pub polygon : Polygon (map point_of keys) (map point_of (take count vertices))
   pub first : Least keys (get vertices 0)
 
-pub outlined : {keys vertices : List ℕ} {h : ℕ} → Hull keys vertices h → Outlined keys vertices h
-outlined g = record { some = g.some; few = g.few; polygon = g.polygon; first = g.first }
+pub plain_hull : {keys vertices : List ℕ} {h : ℕ} → Hull keys vertices h → PlainHull keys vertices h
+plain_hull g = record { some = g.some; few = g.few; polygon = g.polygon; first = g.first }
 
-pub hull_of : {keys vertices : List ℕ} {h : ℕ} → AllKeys (get vertices) h → Outlined keys vertices h → Hull keys vertices h
+pub hull_of : {keys vertices : List ℕ} {h : ℕ} → AllKeys (get vertices) h → PlainHull keys vertices h → Hull keys vertices h
 hull_of ks o = record { some = o.some; few = o.few; listed = ks; polygon = o.polygon; first = o.first }
 
 -- ---- a closed listing is the polygon
 
 module _ (keys vertices : List ℕ) (h : ℕ) (room : h ≤ length vertices) where
-  pub closed_outlined : Closed (get keys) (length keys) (get (take h vertices)) h → Outlined keys vertices h
-  closed_outlined c =
+  pub closed_plain_hull : Closed (get keys) (length keys) (get (take h vertices)) h → PlainHull keys vertices h
+  closed_plain_hull c =
       record {
         some = c.some;
         few = closed_few c;
@@ -65,7 +64,7 @@ module _ (keys vertices : List ℕ) (h : ℕ) (room : h ≤ length vertices) whe
       }
 
   pub closed_hull : AllKeys (get keys) (length keys) → Closed (get keys) (length keys) (get (take h vertices)) h → Hull keys vertices h
-  closed_hull ks c = hull_of (record { key = λ i l. rw (← get_or-take h vertices i 0 l) ((among ks c.from).key i l) }) (closed_outlined c)
+  closed_hull ks c = hull_of (record { key = λ i l. rw (← get_or-take h vertices i 0 l) ((among ks c.from).key i l) }) (closed_plain_hull c)
 
 -- ---- the same for other keys, each of which is one of the keys or has some of them in all four quadrants round it
 
@@ -84,8 +83,8 @@ inner_point l k i =
 
 module _ {keys others vertices : List ℕ} {h : ℕ} (l : length keys ≤ length others) (w : EachAmong (get keys) (length keys) (get others) (length others)) where
   module _ (v : (i : ℕ) → i < length others → Among (get keys) (length keys) (get others i) ⊎ Inner (get keys) (length keys) (get others i)) where
-    pub outer_outlined : Outlined keys vertices h → Outlined others vertices h
-    outer_outlined g =
+    pub outer_plain_hull : PlainHull keys vertices h → PlainHull others vertices h
+    outer_plain_hull g =
         record {
           some = g.some;
           few = omega (arith, g.few);
@@ -103,25 +102,25 @@ module _ {keys others vertices : List ℕ} {h : ℕ} (l : length keys ≤ length
             rw r.2 (⊎_elim (λ s. inl (rw s.2 (point_in keys s.0 s.1))) (λ s. inr (inner_point keys (get others r.0) s)) (v r.0 r.1))
 
     pub outer_hull : Hull keys vertices h → Hull others vertices h
-    outer_hull g = hull_of g.listed (outer_outlined (outlined g))
+    outer_hull g = hull_of g.listed (outer_plain_hull (plain_hull g))
 
   -- so for keys with the same members
   module _ (v : EachAmong (get others) (length others) (get keys) (length keys)) where
-    pub same_outlined : Outlined keys vertices h → Outlined others vertices h
-    same_outlined = outer_outlined (λ i k. inl (v.find i k))
+    pub same_plain_hull : PlainHull keys vertices h → PlainHull others vertices h
+    same_plain_hull = outer_plain_hull (λ i k. inl (v.find i k))
 
     pub same_hull : Hull keys vertices h → Hull others vertices h
     same_hull = outer_hull (λ i k. inl (v.find i k))
 
 -- and for keys of which the first n are left
 module _ (old new : List ℕ) (n : ℕ) {vertices : List ℕ} {h : ℕ} (l : n ≤ length new) (o : Outer old new n) where
-  pub left_outlined : Outlined (take n new) vertices h → Outlined old vertices h
-  left_outlined =
+  pub left_plain_hull : PlainHull (take n new) vertices h → PlainHull old vertices h
+  left_plain_hull =
       let e = length-take-le n new l in
-      outer_outlined (omega (arith, o.few)) (front_within new n l o.kept) (front_rest old new n l o)
+      outer_plain_hull (omega (arith, o.few)) (front_within new n l o.kept) (front_rest old new n l o)
 
   pub left_hull : Hull (take n new) vertices h → Hull old vertices h
-  left_hull g = hull_of g.listed (left_outlined (outlined g))
+  left_hull g = hull_of g.listed (left_plain_hull (plain_hull g))
 
 -- ---- the whole: the two parts of the keys, u of them in up and v in down; both in order, in up' and down'; the two chains, of ku vertices in old and kl in l
 
@@ -275,5 +274,5 @@ module _ (keys out : List ℕ) (first last : ℕ) (some : 1 ≤ length keys) (lo
   pub made_one : AllKeys (get keys) (length keys) → EndsOf keys first last → last ≤ first → get out 0 ≡ first → Hull keys out 1
   made_one ks ends same e = closed_hull keys out 1 long ks (one_closed ends same e)
 
-  pub one_outlined : EndsOf keys first last → last ≤ first → get out 0 ≡ first → Outlined keys out 1
-  one_outlined ends same e = closed_outlined keys out 1 long (one_closed ends same e)
+  pub one_plain_hull : EndsOf keys first last → last ≤ first → get out 0 ≡ first → PlainHull keys out 1
+  one_plain_hull ends same e = closed_plain_hull keys out 1 long (one_closed ends same e)

@@ -16,7 +16,7 @@ use Rattle.turns.specs.Keys.{IsKey, AllKeys, key_at, point_of}
 use Rattle.turns.specs.Reflection.{reflected}
 use Rattle.turns.proofs.Order.{point_injective}
 use Rattle.turns.proofs.Coordinates.{key_at_lem}
-use Rattle.turns.proofs.Listed.{each_key}
+use Rattle.turns.proofs.Listed.{front_listed, each_key}
 use Rattle.orders.specs.Order.{get, Sorted}
 use Rattle.chains.specs.Chains.{turn, Chain, Amid, Under, framed}
 use Rattle.extremes.specs.Inner.{Among, EndsOf}
@@ -28,7 +28,7 @@ use Rattle.corners.proofs.Places.{corner_in_span}
 use Rattle.corner_lists.proofs.Boxes.{corner_at_lem}
 use Rattle.corner_lists.specs.ChainKeys.{KeyIn, PointEnds, ChainKeys}
 use Rattle.outlines.specs.Outlines.{PolygonKeys}
-use Rattle.outlines.proofs.Polygons.{all_length, hull_keys}
+use Rattle.outlines.proofs.Polygons.{all_length}
 
 -- ---- the keys of points of the span
 
@@ -85,7 +85,7 @@ module _ {qs : List Point} (kd : Keyed qs) where
       record {
         some = g.some;
         few = omega (arith, g.few, keys_length);
-        keys = hull_keys vs count g;
+        keys = front_listed vs count g.listed;
         polygon = subst (λ q. Polygon q (map point_of (take count vs))) kd.points g.polygon;
       }
 

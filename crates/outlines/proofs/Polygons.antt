@@ -1,16 +1,14 @@
 -- From keys of points to the keys of their polygon. Assumes nothing.
 use mathlib.Core.Path.{◌≡◌, sym, ◌∙◌, ap, subst}
 use mathlib.Core.List.{List, map}
-use Prim.Native.Nat.{ℕ, ◌≤◌, ◌%◌, min}
+use Prim.Native.Nat.{ℕ, ◌≤◌, ◌%◌}
 use native.Mathlib.Omega.{arith}
 use lib.IntN.{ℤ}
 use lib.ListN.{length, take, length-append}
 use lib.Seq.{length-take-le}
-use Rattle.std.proofs.lemmas.List.{take_min}
 use Rattle.plane.specs.declared.Point.{Point}
-use Rattle.plane.specs.Members.{All}
 use Rattle.plane.specs.Polygons.{Polygon}
-use Rattle.turns.specs.Keys.{IsKey, point_of}
+use Rattle.turns.specs.Keys.{point_of}
 use Rattle.turns.proofs.Listed.{front_listed}
 use Rattle.hulls.specs.Hulls.{Hull}
 use Rattle.rounds.specs.Boxes.{boxes_of, all_corners}
@@ -24,11 +22,6 @@ pub all_length : (l : List ℤ) → length l % 4 ≡ 0 → length (all_corners (
 all_length l h =
     simp length-append (omega (arith, corners_length SouthWest l, corners_length SouthEast l, corners_length NorthEast l, corners_length NorthWest l))
 
--- a hull's vertices are keys, in a list
-pub hull_keys : {ks : List ℕ} (vs : List ℕ) (count : ℕ) → Hull ks vs count → All IsKey (take count vs)
-hull_keys vs count g =
-    subst (All IsKey) (take_min count vs) (front_listed vs (min count (length vs)) (omega arith) (record { key = λ i o. g.listed.key i (omega arith) }))
-
 -- the first n keys of ks are those of the points qs
 module _ (qs : List Point) (ks : List ℕ) (n : ℕ) (e : length qs ≡ n) (h : n ≤ length ks) (f : KeysOf qs ks) where
   pub front_length : length (take n ks) ≡ n
@@ -39,6 +32,6 @@ module _ (qs : List Point) (ks : List ℕ) (n : ℕ) (e : length qs ≡ n) (h : 
       record {
         some = g.some;
         few = omega (arith, g.few, front_length);
-        keys = hull_keys vs count g;
+        keys = front_listed vs count g.listed;
         polygon = subst (λ q. Polygon q (map point_of (take count vs))) (ap (λ m. map point_of (take m ks)) (sym e) ∙ f.points) g.polygon;
       }

@@ -21,7 +21,7 @@ module _ (first : ℕ) (keys : List ℕ) (last : ℕ) (stack : List ℕ) (m k : 
   enough = omega (arith, ch.few)
 
   vertices : IsKey first → All IsKey keys → All IsKey (take k stack)
-  vertices f ks = front_listed stack k enough (chain_keys (framed_keys first keys last f (each_key ks)) (omega arith) ch)
+  vertices f ks = front_listed stack k (chain_keys (framed_keys first keys last f (each_key ks)) (omega arith) ch)
 
   step : (n r : ℕ) → first < last → Sorted (get keys) 0 (length keys) × Amid (get keys) (length keys) first last → r ≡ framed first keys last (suc m)
       → Popped (get (take k stack)) (length (take k stack)) r n → Chain (framed first keys last) (suc (suc m)) (get (set stack n r)) (n + 1)

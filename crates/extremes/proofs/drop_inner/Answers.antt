@@ -11,7 +11,7 @@ returns-then-keys-lt-DROP_FROM c = undropped c.args.keys.now
 pub invariant_of-is_filled : goal.invariant_of-is_filled
 invariant_of-is_filled c =
     let k = c.args.keys.now in
-    record { all_keys = front_listed k 24 (omega (arith, c.if-keys-lt-DROP_FROM.false)) (record { key = λ i h. c.requires.1.key i (omega (arith, c.if-keys-lt-DROP_FROM.false)) }) }
+    record { all_keys = front_listed k 24 (record { key = λ i h. c.requires.1.key i (omega (arith, c.if-keys-lt-DROP_FROM.false)) }) }
 
 pub invariant_of-find_far : goal.invariant_of-find_far
 invariant_of-find_far c = record { all_keys = listed c.requires.1 }

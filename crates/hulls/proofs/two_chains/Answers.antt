@@ -41,7 +41,7 @@ upper_chain-kl-requires c =
 pub invariant_of-append_reflected : goal.invariant_of-append_reflected
 invariant_of-append_reflected c =
     let m = chains (goal.at.invariant_of-append_reflected c).After-upper_chain-kl (parts (goal.at.invariant_of-append_reflected c).After-sort_parts) in
-    record { all_keys = front_listed _ _ (omega (arith, m.few)) m.lower }
+    record { all_keys = front_listed _ _ m.lower }
 
 pub append_reflected-requires : goal.append_reflected-requires
 append_reflected-requires c =

@@ -60,7 +60,7 @@ chains c ur vr =
     _ _ _ _ c.upper_chain-ku.ensures (rw (← r.first, ← r.last) c.upper_chain-kl.ensures)
 
 pub invariant_of-upper_chain : goal.invariant_of-upper_chain
-invariant_of-upper_chain c = record { all_keys = chain_listed (λ x h. h) c.upper_keys-u.ensures (upper_room (goal.at.invariant_of-upper_chain c).After-upper_keys-u) }
+invariant_of-upper_chain c = record { all_keys = chain_listed (λ x h. h) c.upper_keys-u.ensures }
 
 pub upper_chain-ku-requires-clause-sorted : goal.upper_chain-ku-requires-clause-sorted
 upper_chain-ku-requires-clause-sorted c =
@@ -69,7 +69,7 @@ upper_chain-ku-requires-clause-sorted c =
     (front_sorted k.new.list room k.ensures, front_amid k.new.list room k.ensures)
 
 pub invariant_of-upper_chain-2 : goal.invariant_of-upper_chain-2
-invariant_of-upper_chain-2 c = record { all_keys = chain_listed (λ x h. reflected_key h) c.lower_keys-v.ensures (lower_room (goal.at.invariant_of-upper_chain-2 c).After-lower_keys-v) }
+invariant_of-upper_chain-2 c = record { all_keys = chain_listed (λ x h. reflected_key h) c.lower_keys-v.ensures }
 
 pub upper_chain-kl-requires-clause-keys_in_bounds : goal.upper_chain-kl-requires-clause-keys_in_bounds
 upper_chain-kl-requires-clause-keys_in_bounds c = (
@@ -86,7 +86,7 @@ upper_chain-kl-requires-clause-sorted c =
 pub invariant_of-append_reflected : goal.invariant_of-append_reflected
 invariant_of-append_reflected c =
     let at = goal.at.invariant_of-append_reflected c in
-    record { all_keys = front_listed _ _ (below_room at.After-upper_chain-kl) (chains at.After-upper_chain-kl (upper_room at.After-upper_keys-u) (lower_room at.After-lower_keys-v)).lower }
+    record { all_keys = front_listed _ _ (chains at.After-upper_chain-kl (upper_room at.After-upper_keys-u) (lower_room at.After-lower_keys-v)).lower }
 
 pub append_reflected-requires : goal.append_reflected-requires
 append_reflected-requires c =
